@@ -1,0 +1,8 @@
+-- Document 01, the tagged form and what modules and netlists share.
+pub mod Choice
+pub mod Limits
+pub mod Made
+pub mod Answers
+pub mod Sorts
+pub mod Bytes
+pub mod Fields

@@ -1,0 +1,4 @@
+-- The laws of bits and of widths, for this crate's proofs and those above it, and the table of cases.
+pub mod BitLaws
+pub mod WidthLaws
+pub mod Cases
