@@ -3,6 +3,7 @@ use mathlib.Core.Path.{_≡_, refl, sym, ap, ap₂, _∙_}
 use mathlib.Core.List.{List, [], _∷_, _++_}
 use Prim.Native.Nat.{ℕ, zero, suc, _+_, _-_, _*_, _/_, _%_, _^_, _≤_, _<_}
 use native.Mathlib.Decide.{decLt}
+use native.Mathlib.Nat.{add-zero}
 use native.Mathlib.Omega.{arith}
 use lib.Arith.{digits-div, digits-mod}
 use lib.Dec.{lit<}
@@ -13,6 +14,10 @@ use Rattle.tagged.specs.Bytes.{AllBytes, twoBytes, numberOfTwo, fourByte
 -- the rest of a list, as the code has it
 pub rest : (l : List ℕ) (k : ℕ) → take (length l - k) (drop k l) ≡ drop k l
 rest l k = take-all (length l - k) (drop k l) (omega (arith, lib.ListN.length-drop k l))
+
+-- the first element of the rest
+pub front : (l : List ℕ) (k : ℕ) → getD (drop k l) 0 0 ≡ getD l k 0
+front l k = rw (getD-drop, add-zero)
 
 pub two-lt : (a b : ℕ) → a < 256 → b < 256 → numberOfTwo a b < 65536
 unfolding numberOfTwo

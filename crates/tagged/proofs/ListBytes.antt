@@ -107,10 +107,10 @@ module _ {A : Type 0} (wanted : Sort → Bool) (body : Body) (read : Sort → Li
 
   -- nothing that is wanted stands there
   none-read : (base : ℕ) (l : List ℕ) → ((s : Sort) (n : ℕ) → Whole l s n → wanted s ≡ false) → readPlaced wanted read base l ≡ []
-  none-read base l off = go (openOf base base l) refl
+  none-read base l off = go (openOf 0 0 l) refl
     where
-      go : (o : Opened) → openOf base base l ≡ o → readPlaced wanted read base l ≡ []
-      go (Opened.Field s n) p = let w = open-whole base base l p in read-stop wanted read base l w (off s n w)
+      go : (o : Opened) → openOf 0 0 l ≡ o → readPlaced wanted read base l ≡ []
+      go (Opened.Field s n) p = let w = open-whole 0 0 l p in read-stop wanted read base l w (off s n w)
       go (Opened.Refused y) p = read-end wanted read base l y p
 
   module _ (known : (s : Sort) → wanted s ≡ true → tagOf s ≡ 0 → ⊥)

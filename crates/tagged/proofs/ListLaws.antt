@@ -8,6 +8,7 @@ use native.Mathlib.Numerals.{sub-one, add-one, one-add}
 use native.Mathlib.Omega.{arith}
 use lib.ListN.{length, getD, take, drop, length-append, length-take, length-drop}
 use lib.Seq.{drop-drop, take-add, take-at, drop-at}
+use Rattle.tagged.specs.Choice.{choose}
 use Rattle.tagged.specs.Bytes.{AllBytes, twoBytes, numberOfTwo}
 use Rattle.tagged.specs.Sorts.{sortOf, tagOf}
 use Rattle.tagged.specs.declared.sorts.Sort.{Sort}
@@ -113,7 +114,7 @@ module _ {A : Type 0} (wanted : Sort → Bool) (read : Sort → List ℕ → A) 
       let next : base + 1 + n ≡ base + suc n = omega arith in
       read-skip n (base + 1) l ∙ rw next
 
-  pub read-end : (base : ℕ) (l : List ℕ) (x : ℕ) → openOf base base l ≡ Opened.Refused x → readPlaced wanted read base l ≡ []
+  pub read-end : (base : ℕ) (l : List ℕ) (x : ℕ) → openOf 0 0 l ≡ Opened.Refused x → readPlaced wanted read base l ≡ []
   unfolding readFrom
   read-end base [] x e = refl
   read-end base (y ∷ l) x e = rw e
@@ -121,7 +122,7 @@ module _ {A : Type 0} (wanted : Sort → Bool) (read : Sort → List ℕ → A) 
   pub read-stop : (base : ℕ) (l : List ℕ) {s : Sort} {n : ℕ} → Whole l s n → wanted s ≡ false → readPlaced wanted read base l ≡ []
   unfolding readFrom
   read-stop base [] w h = refl
-  read-stop base (x ∷ l) w h = rw (whole-open base base (x ∷ l) w, h)
+  read-stop base (x ∷ l) w h = rw (whole-open 0 0 (x ∷ l) w, h)
 
   pub read-more : (base : ℕ) (l : List ℕ) {s : Sort} {n : ℕ} → Whole l s n → wanted s ≡ true →
       readPlaced wanted read base l ≡ record { place = base; what = read s (take n (drop 3 l)) } ∷ readPlaced wanted read (base + (n + 3)) (drop (n + 3) l)
@@ -130,4 +131,24 @@ module _ {A : Type 0} (wanted : Sort → Bool) (read : Sort → List ℕ → A) 
   read-more base (x ∷ l) {s} {n} w h =
       let size : n + 3 ≡ suc (n + 2) = omega arith in
       let next : base + 1 + (n + 2) ≡ base + suc (n + 2) = omega arith in
-      rw (whole-open base base (x ∷ l) w, h, size, read-skip (n + 2) (base + 1) l, next)
+      rw (whole-open 0 0 (x ∷ l) w, h, size, read-skip (n + 2) (base + 1) l, next)
+
+  -- what is read does not depend on where it stands
+  pub read-anywhere : (skip a b : ℕ) (l : List ℕ) → unplaced (readFrom wanted read skip a l) ≡ unplaced (readFrom wanted read skip b l)
+  unfolding readFrom
+  read-anywhere zero a b [] = refl
+  read-anywhere (suc n) a b [] = refl
+  read-anywhere (suc n) a b (x ∷ l) = read-anywhere n (a + 1) (b + 1) l
+  read-anywhere zero a b (x ∷ l) = go (openOf 0 0 (x ∷ l)) (λ n. read-anywhere n (a + 1) (b + 1) l)
+    where
+      here : ℕ → Bool → Sort → ℕ → List (Placed A)
+      here base t s n = choose t (λ _. record { place = base; what = read s (take n (drop 3 (x ∷ l))) } ∷ readFrom wanted read (n + 2) (base + 1) l) (λ _. [])
+
+      side : (t : Bool) (s : Sort) (n : ℕ) → unplaced (readFrom wanted read (n + 2) (a + 1) l) ≡ unplaced (readFrom wanted read (n + 2) (b + 1) l) → unplaced (here a t s n) ≡ unplaced (here b t s n)
+      side true s n later = ap (λ y. read s (take n (drop 3 (x ∷ l))) ∷ y) later
+      side false s n later = refl
+
+      go : (o : Opened) → ((n : ℕ) → unplaced (readFrom wanted read n (a + 1) l) ≡ unplaced (readFrom wanted read n (b + 1) l)) →
+          unplaced (onField o (λ s n. here a (wanted s) s n) []) ≡ unplaced (onField o (λ s n. here b (wanted s) s n) [])
+      go (Opened.Field s n) later = side (wanted s) s n (later (n + 2))
+      go (Opened.Refused y) later = refl

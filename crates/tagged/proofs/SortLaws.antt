@@ -1,13 +1,13 @@
 -- The laws of the table of tags: what each range begins, and that tags and sorts give each other back.
 use mathlib.Core.Path.{_≡_, refl, sym, ap, _∙_}
-use mathlib.Core.Bool.{Bool, true, false, _&&_, _||_, and-false, false≢true}
+use mathlib.Core.Bool.{Bool, true, false, _&&_, _||_, false≢true}
 use mathlib.Core.List.{List}
 use Prim.Native.Nat.{ℕ, zero, suc, _+_, _≤_, _<_}
 use native.Mathlib.Decide.{decLe, decLt}
 use native.Mathlib.Nat.{lt-of-not-le}
 use native.Mathlib.Omega.{arith}
-use lib.Dec.{leb, eqb}
-use borrow.Author.Tests.{le-leb, lt-leb, eqb-true}
+use lib.Dec.{eqb}
+use borrow.Author.Tests.{eqb-true}
 use Rattle.words.specs.declared.OneOperand.the-variants as one
 use Rattle.words.specs.declared.TwoOperand.the-variants as two
 use Rattle.tagged.specs.declared.sorts.DeclarationSort.{DeclarationSort}
@@ -21,60 +21,50 @@ use Rattle.tagged.specs.declared.sorts.CellSort.{CellSort}
 use Rattle.tagged.specs.declared.sorts.CellSort.the-variants as CellSort
 use Rattle.tagged.specs.declared.sorts.Sort.{Sort}
 use Rattle.tagged.specs.declared.sorts.Sort.the-variants as Sort
-use Rattle.tagged.specs.Sorts.{tagWithin, declarationSort, statementSort, expressionSort, cellSort, sortOf, tagOf, declarationTag, statementTag, expressionTag, cellTag}
-
--- the ranges of the table
-module _ (t : ℕ) where
-  above : (first last : ℕ) → last < t → tagWithin first last t ≡ false
-  above first last h = rw (lt-leb t last h, and-false)
-
-  below : (first last : ℕ) → t < first → tagWithin first last t ≡ false
-  below first last h = rw (lt-leb first t h)
-
-  within : (first last : ℕ) → first ≤ t → t ≤ last → tagWithin first last t ≡ true
-  within first last h k = rw (le-leb first t h, le-leb t last k)
+use Rattle.tagged.proofs.RangeLaws.{range-above, range-below, range-within}
+use Rattle.tagged.specs.Sorts.{declarationSort, statementSort, expressionSort, cellSort, sortOf, tagOf, declarationTag, statementTag, expressionTag, cellTag}
 
 -- what a range begins
 pub sort-declaration : (t : ℕ) → 0x02 ≤ t → t < 0x04 → sortOf t ≡ Sort.Declaration (declarationSort t)
 unfolding sortOf
-sort-declaration t h k = rw (above t 0x01 0x01 (omega arith), within t 0x02 0x03 (omega arith) (omega arith))
+sort-declaration t h k = rw (range-above t 0x01 0x01 (omega arith), range-within t 0x02 0x03 (omega arith) (omega arith))
 
 pub sort-statement : (t : ℕ) → 0x10 ≤ t → t < 0x16 → sortOf t ≡ Sort.Statement (statementSort t)
 unfolding sortOf
-sort-statement t h k = rw (above t 0x01 0x01 (omega arith), above t 0x02 0x03 (omega arith), above t 0x04 0x04 (omega arith), within t 0x10 0x15 (omega arith) (omega arith))
+sort-statement t h k = rw (range-above t 0x01 0x01 (omega arith), range-above t 0x02 0x03 (omega arith), range-above t 0x04 0x04 (omega arith), range-within t 0x10 0x15 (omega arith) (omega arith))
 
 pub sort-expression : (t : ℕ) → 0x20 ≤ t → t < 0x2B → sortOf t ≡ Sort.Expression (expressionSort t)
 unfolding sortOf
-sort-expression t h k = rw (above t 0x01 0x01 (omega arith), above t 0x02 0x03 (omega arith), above t 0x04 0x04 (omega arith), above t 0x10 0x15 (omega arith), above t 0x16 0x16 (omega arith), above t 0x17 0x17 (omega arith), within t 0x20 0x2A (omega arith) (omega arith))
+sort-expression t h k = rw (range-above t 0x01 0x01 (omega arith), range-above t 0x02 0x03 (omega arith), range-above t 0x04 0x04 (omega arith), range-above t 0x10 0x15 (omega arith), range-above t 0x16 0x16 (omega arith), range-above t 0x17 0x17 (omega arith), range-within t 0x20 0x2A (omega arith) (omega arith))
 
 pub sort-cell : (t : ℕ) → 0x30 ≤ t → t < 0x3B → sortOf t ≡ Sort.Cell (cellSort t)
 unfolding sortOf
-sort-cell t h k = rw (above t 0x01 0x01 (omega arith), above t 0x02 0x03 (omega arith), above t 0x04 0x04 (omega arith), above t 0x10 0x15 (omega arith), above t 0x16 0x16 (omega arith), above t 0x17 0x17 (omega arith), above t 0x20 0x2A (omega arith), within t 0x30 0x3A (omega arith) (omega arith))
+sort-cell t h k = rw (range-above t 0x01 0x01 (omega arith), range-above t 0x02 0x03 (omega arith), range-above t 0x04 0x04 (omega arith), range-above t 0x10 0x15 (omega arith), range-above t 0x16 0x16 (omega arith), range-above t 0x17 0x17 (omega arith), range-above t 0x20 0x2A (omega arith), range-within t 0x30 0x3A (omega arith) (omega arith))
 
 -- what lies between the ranges is unknown
 pub unknown-05 : (t : ℕ) → 0x05 ≤ t → t < 0x10 → sortOf t ≡ Sort.Unknown
 unfolding sortOf
-unknown-05 t h k = rw (above t 0x01 0x01 (omega arith), above t 0x02 0x03 (omega arith), above t 0x04 0x04 (omega arith), below t 0x10 0x15 (omega arith), below t 0x16 0x16 (omega arith), below t 0x17 0x17 (omega arith), below t 0x20 0x2A (omega arith), below t 0x30 0x3A (omega arith), below t 0x40 0x40 (omega arith), below t 0x81 0x81 (omega arith))
+unknown-05 t h k = rw (range-above t 0x01 0x01 (omega arith), range-above t 0x02 0x03 (omega arith), range-above t 0x04 0x04 (omega arith), range-below t 0x10 0x15 (omega arith), range-below t 0x16 0x16 (omega arith), range-below t 0x17 0x17 (omega arith), range-below t 0x20 0x2A (omega arith), range-below t 0x30 0x3A (omega arith), range-below t 0x40 0x40 (omega arith), range-below t 0x81 0x81 (omega arith))
 
 pub unknown-18 : (t : ℕ) → 0x18 ≤ t → t < 0x20 → sortOf t ≡ Sort.Unknown
 unfolding sortOf
-unknown-18 t h k = rw (above t 0x01 0x01 (omega arith), above t 0x02 0x03 (omega arith), above t 0x04 0x04 (omega arith), above t 0x10 0x15 (omega arith), above t 0x16 0x16 (omega arith), above t 0x17 0x17 (omega arith), below t 0x20 0x2A (omega arith), below t 0x30 0x3A (omega arith), below t 0x40 0x40 (omega arith), below t 0x81 0x81 (omega arith))
+unknown-18 t h k = rw (range-above t 0x01 0x01 (omega arith), range-above t 0x02 0x03 (omega arith), range-above t 0x04 0x04 (omega arith), range-above t 0x10 0x15 (omega arith), range-above t 0x16 0x16 (omega arith), range-above t 0x17 0x17 (omega arith), range-below t 0x20 0x2A (omega arith), range-below t 0x30 0x3A (omega arith), range-below t 0x40 0x40 (omega arith), range-below t 0x81 0x81 (omega arith))
 
 pub unknown-2B : (t : ℕ) → 0x2B ≤ t → t < 0x30 → sortOf t ≡ Sort.Unknown
 unfolding sortOf
-unknown-2B t h k = rw (above t 0x01 0x01 (omega arith), above t 0x02 0x03 (omega arith), above t 0x04 0x04 (omega arith), above t 0x10 0x15 (omega arith), above t 0x16 0x16 (omega arith), above t 0x17 0x17 (omega arith), above t 0x20 0x2A (omega arith), below t 0x30 0x3A (omega arith), below t 0x40 0x40 (omega arith), below t 0x81 0x81 (omega arith))
+unknown-2B t h k = rw (range-above t 0x01 0x01 (omega arith), range-above t 0x02 0x03 (omega arith), range-above t 0x04 0x04 (omega arith), range-above t 0x10 0x15 (omega arith), range-above t 0x16 0x16 (omega arith), range-above t 0x17 0x17 (omega arith), range-above t 0x20 0x2A (omega arith), range-below t 0x30 0x3A (omega arith), range-below t 0x40 0x40 (omega arith), range-below t 0x81 0x81 (omega arith))
 
 pub unknown-3B : (t : ℕ) → 0x3B ≤ t → t < 0x40 → sortOf t ≡ Sort.Unknown
 unfolding sortOf
-unknown-3B t h k = rw (above t 0x01 0x01 (omega arith), above t 0x02 0x03 (omega arith), above t 0x04 0x04 (omega arith), above t 0x10 0x15 (omega arith), above t 0x16 0x16 (omega arith), above t 0x17 0x17 (omega arith), above t 0x20 0x2A (omega arith), above t 0x30 0x3A (omega arith), below t 0x40 0x40 (omega arith), below t 0x81 0x81 (omega arith))
+unknown-3B t h k = rw (range-above t 0x01 0x01 (omega arith), range-above t 0x02 0x03 (omega arith), range-above t 0x04 0x04 (omega arith), range-above t 0x10 0x15 (omega arith), range-above t 0x16 0x16 (omega arith), range-above t 0x17 0x17 (omega arith), range-above t 0x20 0x2A (omega arith), range-above t 0x30 0x3A (omega arith), range-below t 0x40 0x40 (omega arith), range-below t 0x81 0x81 (omega arith))
 
 pub unknown-41 : (t : ℕ) → 0x41 ≤ t → t < 0x81 → sortOf t ≡ Sort.Unknown
 unfolding sortOf
-unknown-41 t h k = rw (above t 0x01 0x01 (omega arith), above t 0x02 0x03 (omega arith), above t 0x04 0x04 (omega arith), above t 0x10 0x15 (omega arith), above t 0x16 0x16 (omega arith), above t 0x17 0x17 (omega arith), above t 0x20 0x2A (omega arith), above t 0x30 0x3A (omega arith), above t 0x40 0x40 (omega arith), below t 0x81 0x81 (omega arith))
+unknown-41 t h k = rw (range-above t 0x01 0x01 (omega arith), range-above t 0x02 0x03 (omega arith), range-above t 0x04 0x04 (omega arith), range-above t 0x10 0x15 (omega arith), range-above t 0x16 0x16 (omega arith), range-above t 0x17 0x17 (omega arith), range-above t 0x20 0x2A (omega arith), range-above t 0x30 0x3A (omega arith), range-above t 0x40 0x40 (omega arith), range-below t 0x81 0x81 (omega arith))
 
 pub unknown-82 : (t : ℕ) → 0x82 ≤ t → sortOf t ≡ Sort.Unknown
 unfolding sortOf
-unknown-82 t h = rw (above t 0x01 0x01 (omega arith), above t 0x02 0x03 (omega arith), above t 0x04 0x04 (omega arith), above t 0x10 0x15 (omega arith), above t 0x16 0x16 (omega arith), above t 0x17 0x17 (omega arith), above t 0x20 0x2A (omega arith), above t 0x30 0x3A (omega arith), above t 0x40 0x40 (omega arith), above t 0x81 0x81 (omega arith))
+unknown-82 t h = rw (range-above t 0x01 0x01 (omega arith), range-above t 0x02 0x03 (omega arith), range-above t 0x04 0x04 (omega arith), range-above t 0x10 0x15 (omega arith), range-above t 0x16 0x16 (omega arith), range-above t 0x17 0x17 (omega arith), range-above t 0x20 0x2A (omega arith), range-above t 0x30 0x3A (omega arith), range-above t 0x40 0x40 (omega arith), range-above t 0x81 0x81 (omega arith))
 
 -- above the cells, all but a drive and a netlist are unknown
 pub unknown-high : (t : ℕ) → 0x3B ≤ t → (t ≡ 0x40 → ⊥) → (t ≡ 0x81 → ⊥) → sortOf t ≡ Sort.Unknown

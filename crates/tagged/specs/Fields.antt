@@ -137,7 +137,7 @@ onField (Opened.Refused place) k none = none
 unfoldable pub readFrom : {A : Type 0} → (Sort → Bool) → (Sort → List ℕ → A) → ℕ → ℕ → List ℕ → List (Placed A)
 readFrom wanted read skip base [] = []
 readFrom wanted read zero base (x ∷ l) =
-    onField (openOf base base (x ∷ l))
+    onField (openOf 0 0 (x ∷ l))
     (λ s n. choose (wanted s)
     (λ _. record { place = base; what = read s (take n (drop 3 (x ∷ l))) } ∷ readFrom wanted read (n + 2) (base + 1) l)
     (λ _. []))

@@ -6,3 +6,7 @@ pub mod Answers
 pub mod Sorts
 pub mod Bytes
 pub mod Fields
+pub mod Files
+pub mod Names
+pub mod Declarations
+pub mod Rows

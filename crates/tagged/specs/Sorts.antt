@@ -1,7 +1,8 @@
 -- The table of tags: what sort of field each tag begins, and back.
 use Prim.Native.Nat.{ℕ}
-use mathlib.Core.Bool.{Bool, true, false, cond, _&&_}
-use lib.Dec.{leb, eqb}
+use mathlib.Core.Bool.{Bool, true, false, cond}
+use lib.Dec.{eqb}
+use Rattle.tagged.specs.Choice.{inRange}
 use Rattle.words.specs.declared.OneOperand.the-variants as one
 use Rattle.words.specs.declared.TwoOperand.the-variants as two
 use Rattle.tagged.specs.declared.sorts.DeclarationSort.{DeclarationSort}
@@ -16,10 +17,6 @@ use Rattle.tagged.specs.declared.sorts.CellSort.{CellSort}
 use Rattle.tagged.specs.declared.sorts.CellSort.the-variants as CellSort
 use Rattle.tagged.specs.declared.sorts.Sort.{Sort}
 use Rattle.tagged.specs.declared.sorts.Sort.the-variants as Sort
-
--- the tag lies in this range, ends included
-abbrev pub tagWithin : ℕ → ℕ → ℕ → Bool
-tagWithin first last t = leb first t && leb t last
 
 -- which declaration, within 02 and 03
 unfoldable pub declarationSort : ℕ → DeclarationSort
@@ -65,16 +62,16 @@ cellSort t =
 -- the sort of field that a tag begins; every tag that the table does not have is unknown
 unfoldable pub sortOf : ℕ → Sort
 sortOf t =
-    cond (tagWithin 0x01 0x01 t) Sort.Module
-    (cond (tagWithin 0x02 0x03 t) (Sort.Declaration (declarationSort t))
-    (cond (tagWithin 0x04 0x04 t) Sort.Process
-    (cond (tagWithin 0x10 0x15 t) (Sort.Statement (statementSort t))
-    (cond (tagWithin 0x16 0x16 t) Sort.Item
-    (cond (tagWithin 0x17 0x17 t) Sort.Block
-    (cond (tagWithin 0x20 0x2A t) (Sort.Expression (expressionSort t))
-    (cond (tagWithin 0x30 0x3A t) (Sort.Cell (cellSort t))
-    (cond (tagWithin 0x40 0x40 t) Sort.Drive
-    (cond (tagWithin 0x81 0x81 t) Sort.Netlist Sort.Unknown)))))))))
+    cond (inRange 0x01 0x01 t) Sort.Module
+    (cond (inRange 0x02 0x03 t) (Sort.Declaration (declarationSort t))
+    (cond (inRange 0x04 0x04 t) Sort.Process
+    (cond (inRange 0x10 0x15 t) (Sort.Statement (statementSort t))
+    (cond (inRange 0x16 0x16 t) Sort.Item
+    (cond (inRange 0x17 0x17 t) Sort.Block
+    (cond (inRange 0x20 0x2A t) (Sort.Expression (expressionSort t))
+    (cond (inRange 0x30 0x3A t) (Sort.Cell (cellSort t))
+    (cond (inRange 0x40 0x40 t) Sort.Drive
+    (cond (inRange 0x81 0x81 t) Sort.Netlist Sort.Unknown)))))))))
 
 -- the tag of a declaration
 abbrev pub declarationTag : DeclarationSort → ℕ

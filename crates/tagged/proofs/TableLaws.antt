@@ -1,0 +1,94 @@
+-- The table of variables: what it holds at each index, and how a list of declarations fills it one by one.
+use mathlib.Core.Path.{_≡_, refl, sym, ap, ap₂, _∙_}
+use mathlib.Core.List.{List, [], _∷_, _++_, map, append-assoc, append-nil}
+use Prim.Native.Nat.{ℕ, zero, suc, _+_, _≤_, _<_}
+use native.Mathlib.Numerals.{add-one}
+use native.Mathlib.Omega.{arith}
+use lib.ListN.{length, getD, take, set, replicate, length-append, length-map}
+use Rattle.tagged.specs.Limits.{mostVariables}
+use Rattle.tagged.specs.Declarations.{Declaration, widthOf, sortOfDeclaration, registerMark, tableOf, variableTable, withVariable}
+use Rattle.tagged.specs.declared.declarations.VariableTable.{VariableTable}
+
+pub table-length : (n : ℕ) (l : List ℕ) → length (tableOf n l) ≡ n
+unfolding tableOf
+table-length zero l = refl
+table-length (suc n) [] = ap suc (table-length n [])
+table-length (suc n) (x ∷ l) = ap suc (table-length n l)
+
+-- below its length a table is as its list
+pub table-at : (n : ℕ) (l : List ℕ) (i : ℕ) → i < n → getD (tableOf n l) i 0 ≡ getD l i 0
+unfolding tableOf
+table-at zero l i h = absurd (omega arith)
+table-at (suc n) [] zero h = refl
+table-at (suc n) [] (suc i) h = table-at n [] i (omega arith)
+table-at (suc n) (x ∷ l) zero h = refl
+table-at (suc n) (x ∷ l) (suc i) h = table-at n l i (omega arith)
+
+-- a list that the table has room for stands in its front
+pub table-front : (n : ℕ) (l : List ℕ) → length l ≤ n → take (length l) (tableOf n l) ≡ l
+unfolding tableOf
+table-front zero [] h = refl
+table-front zero (x ∷ l) h = absurd (omega arith)
+table-front (suc n) [] h = refl
+table-front (suc n) (x ∷ l) h = ap (λ (y : List ℕ). x ∷ y) (table-front n l (omega arith))
+
+-- one number more, so far as there is room
+pub table-more : (n : ℕ) (l : List ℕ) (x : ℕ) → set (tableOf n l) (length l) x ≡ tableOf n (l ++ (x ∷ []))
+unfolding tableOf
+table-more zero [] x = refl
+table-more zero (y ∷ l) x = refl
+table-more (suc n) [] x = refl
+table-more (suc n) (y ∷ l) x = ap (λ (z : List ℕ). y ∷ z) (table-more n l x)
+
+mapped : (f : Declaration → ℕ) (l : List Declaration) (d : Declaration) → map f (l ++ (d ∷ [])) ≡ map f l ++ (f d ∷ [])
+mapped f [] d = refl
+mapped f (c ∷ l) d = ap (λ (y : List ℕ). f c ∷ y) (mapped f l d)
+
+-- one column of the table
+column-more : (f : Declaration → ℕ) (l : List Declaration) (d : Declaration) → set (tableOf mostVariables (map f l)) (length l) (f d) ≡ tableOf mostVariables (map f (l ++ (d ∷ [])))
+column-more f l d =
+    ap (λ (k : ℕ). set (tableOf mostVariables (map f l)) k (f d)) (sym (length-map l f))
+    ∙ table-more mostVariables (map f l) (f d) ∙ ap (tableOf mostVariables) (sym (mapped f l d))
+
+abbrev pub markOf : Declaration → ℕ
+markOf d = registerMark (sortOfDeclaration d)
+
+-- the table of a list and one declaration more
+pub table-with : (l : List Declaration) (d : Declaration) → withVariable (variableTable l) (widthOf d) (markOf d) ≡ variableTable (l ++ (d ∷ []))
+unfolding withVariable variableTable
+table-with l d = λ i. record {
+  count = long i;
+  widths = column-more widthOf l d i;
+  registers = column-more markOf l d i;
+}
+  where
+    long : length l + 1 ≡ length (l ++ (d ∷ []))
+    long = sym (length-append l (d ∷ []))
+
+-- a table filled with the declarations of a list
+pub extend : VariableTable → List Declaration → VariableTable
+extend t [] = t
+extend t (d ∷ l) = extend (withVariable t (widthOf d) (markOf d)) l
+
+pub extend-table : (done l : List Declaration) → extend (variableTable done) l ≡ variableTable (done ++ l)
+unfolding extend
+extend-table done [] = ap variableTable (sym (append-nil done))
+extend-table done (d ∷ l) = ap (λ (t : VariableTable). extend t l) (table-with done d) ∙ extend-table (done ++ (d ∷ [])) l ∙ ap variableTable (append-assoc done (d ∷ []) l)
+
+-- the loop that fills a table: from the empty one, one turn, and the end
+pub extend-start : (l : List Declaration) → extend (record { count = 0; widths = replicate mostVariables 0; registers = replicate mostVariables 0 }) l ≡ variableTable l
+unfolding variableTable tableOf
+extend-start l = extend-table [] l
+
+pub extend-more : {whole : VariableTable} (t : VariableTable) (l : List Declaration) (d : Declaration) (after : List Declaration) → l ≡ d ∷ after → extend t l ≡ whole →
+    (w m : ℕ) → w ≡ widthOf d → m ≡ markOf d → (r : VariableTable) → r ≡ withVariable t w m → extend r after ≡ whole
+unfolding extend
+extend-more t l d after more going w m we me r e = ap (λ (t : VariableTable). extend t after) (e ∙ ap₂ (withVariable t) we me) ∙ rw more at going
+
+pub extend-done : {whole : VariableTable} (t : VariableTable) (l : List Declaration) → l ≡ [] → extend t l ≡ whole → t ≡ whole
+unfolding extend
+extend-done t l none going = rw none at going
+
+pub with-count : (t : VariableTable) (w m : ℕ) (r : VariableTable) → r ≡ withVariable t w m → r .count ≡ t .count + 1
+unfolding withVariable
+with-count t w m r e = ap (λ (t : VariableTable). t .count) e

@@ -1,0 +1,95 @@
+-- `tagged::declarations::declaration_broken` meets its contract: what is passed breaks nothing, so the whole is as the rest. Assumes nothing.
+use mathlib.Core.Path.{_≡_, refl, sym, ap, _∙_}
+use mathlib.Core.List.{[]}
+use Prim.Native.Nat.{_+_, _-_, _≤_}
+use native.Mathlib.Nat.{add-zero}
+use native.Mathlib.Omega.{arith}
+use lib.ListN.{length, take, drop}
+use Rattle.tagged.specs.Declarations.{declarationIn, declarationsIn, declarationsAt, declarationBreaks, firstBroken}
+use Rattle.tagged.proofs.DeclarationWalks.{here-within, here-more, here-placed, here-ended, Walked, walked-start, walked-more, walked-before, broken-none, broken-here, broken-later}
+use borrow.Author.Needs.{needs}
+use Rattle.tagged.proofs.declarations.declaration_broken.Statement.{statement}
+use Rattle.tagged.proofs.declarations.declaration_broken.Tie as tie
+
+abbrev Inv-loop : tie.InvT-loop
+Inv-loop rule list base at₀ count₀ at count = (at ≤ length list) × Walked list at count × (firstBroken (declarationBreaks rule) [] (declarationsAt base list) ≡ firstBroken (declarationBreaks rule) (take count (declarationsIn list)) (declarationsAt (base + at) (drop at list)))
+
+abbrev μ-loop : tie.MeasureT-loop
+μ-loop rule list base at₀ count₀ at count = length list - at
+
+loop-holds : tie.Need-loop-holds Inv-loop μ-loop
+loop-holds c = (search needs, walked-start (c .before .args .list .now), rw add-zero)
+
+sub-next-declaration : tie.Need-sub-next-declaration Inv-loop μ-loop
+sub-next-declaration c = search needs
+
+part-next-declaration-start : tie.Need-part-next-declaration-start Inv-loop μ-loop
+part-next-declaration-start c = search needs
+
+part-next-declaration-end : tie.Need-part-next-declaration-end Inv-loop μ-loop
+part-next-declaration-end c = search needs
+
+next-declaration-requires : tie.Need-next-declaration-requires Inv-loop μ-loop
+next-declaration-requires c κs = search needs
+
+enum-told : tie.Need-enum-told Inv-loop μ-loop
+enum-told c = search needs
+
+returns : tie.Need-returns Inv-loop μ-loop
+returns c = broken-none (declarationBreaks (c .before .before .before .before .before .before .args .rule)) (c .before .before .before .before .before .before .args .base) (c .before .before .before .before .before .before .args .list .now) (c .before .before .before .before .loop .at) (c .before .before .before .before .loop .count) (c .before .before .before .before .loop .inv .2) (here-ended (c .before .before .before .before .before .before .args .list .now) _ _ (c .before .before .next-declaration .ensures) _ (c .enum-told .given .1))
+
+enum-known-sort : tie.Need-enum-known-sort Inv-loop μ-loop
+enum-known-sort c = search needs
+
+payload-at-requires : tie.Need-payload-at-requires Inv-loop μ-loop
+payload-at-requires c κs = (omega (arith, here-within (c .before .before .before .before .before .before .before .args .list .now) _ _ (c .before .before .before .next-declaration .ensures) _ _ (c .before .sort .given .1)), omega (arith, c .before .before .before .before .before .before .before .pre))
+
+declaration-breaks-requires : tie.Need-declaration-breaks-requires Inv-loop μ-loop
+declaration-breaks-requires c κs = (omega (arith, c .before .before .before .before .before .before .before .before .pre), c .before .before .before .before .before .before .loop .inv .1 .counted, omega (arith, c .before .before .before .before .before .before .before .before .pre, c .before .before .before .before .before .before .loop .inv .1 .sized, c .before .before .before .before .before .before .loop .inv .0))
+
+add-t15 : tie.Need-add-t15 Inv-loop μ-loop
+add-t15 c = search needs
+
+returns-2 : tie.Need-returns-2 Inv-loop μ-loop
+returns-2 c = broken-here (declarationBreaks (c .before .before .before .before .before .before .before .before .before .before .args .rule)) (c .before .before .before .before .before .before .before .before .before .before .args .base) (c .before .before .before .before .before .before .before .before .before .before .args .list .now) (c .before .before .before .before .before .before .before .before .loop .at) (c .before .before .before .before .before .before .before .before .loop .count) (c .before .before .before .before .before .before .before .before .loop .inv .2) _ _ (here-placed (c .before .before .before .before .before .before .before .before .before .before .args .list .now) _ _ (c .before .before .before .before .before .before .next-declaration .ensures) (c .before .before .before .before .before .before .before .before .before .before .args .base) _ _ (c .before .before .before .before .sort .given .1)) (ap (λ l. declarationBreaks (c .before .before .before .before .before .before .before .before .before .before .args .rule) (take (c .before .before .before .before .before .before .before .before .loop .count) (declarationsIn (c .before .before .before .before .before .before .before .before .before .before .args .list .now))) (declarationIn (c .before .before .before .before .sort .given .0 .0) l)) (sym (c .before .before .payload-at .ensures)) ∙ sym (c .before .declaration-breaks .ensures) ∙ c .if1 .taken)
+
+add-at : tie.Need-add-at Inv-loop μ-loop
+add-at c = omega (arith, here-within (c .before .before .before .before .before .before .before .before .before .before .args .list .now) _ _ (c .before .before .before .before .before .before .next-declaration .ensures) _ _ (c .before .before .before .before .sort .given .1), c .before .before .before .before .before .before .before .before .before .before .pre)
+
+add-at-2 : tie.Need-add-at-2 Inv-loop μ-loop
+add-at-2 c = omega (arith, here-within (c .before .before .before .before .before .before .before .before .before .before .args .list .now) _ _ (c .before .before .before .before .before .before .next-declaration .ensures) _ _ (c .before .before .before .before .sort .given .1), c .before .before .before .before .before .before .before .before .before .before .pre)
+
+add-count : tie.Need-add-count Inv-loop μ-loop
+add-count c = omega (arith, c .before .before .before .before .before .before .before .before .before .before .pre, c .before .before .before .before .before .before .before .before .loop .inv .1 .sized, c .before .before .before .before .before .before .before .before .loop .inv .0)
+
+loop-less : tie.Need-loop-less Inv-loop μ-loop
+loop-less c = omega (arith, here-within (c .before .before .before .before .before .before .before .before .before .before .args .list .now) _ _ (c .before .before .before .before .before .before .next-declaration .ensures) _ _ (c .before .before .before .before .sort .given .1))
+
+loop-again : tie.Need-loop-again Inv-loop μ-loop
+loop-again c = 
+    let more = here-more (c .before .before .before .before .before .before .before .before .before .before .args .list .now) _ _ (c .before .before .before .before .before .before .next-declaration .ensures) _ _ (c .before .before .before .before .sort .given .1) in
+    (omega (arith, here-within (c .before .before .before .before .before .before .before .before .before .before .args .list .now) _ _ (c .before .before .before .before .before .before .next-declaration .ensures) _ _ (c .before .before .before .before .sort .given .1)), walked-more (c .before .before .before .before .before .before .before .before .before .before .args .list .now) (c .before .before .before .before .before .before .before .before .loop .at) (c .before .before .before .before .before .before .before .before .loop .count) (c .before .before .before .before .before .before .before .before .loop .at + 3 + c .before .before .before .before .sort .given .0 .1 .0) (c .before .before .before .before .before .before .before .before .loop .inv .1) _ more (omega arith), broken-later (declarationBreaks (c .before .before .before .before .before .before .before .before .before .before .args .rule)) (c .before .before .before .before .before .before .before .before .before .before .args .base) (c .before .before .before .before .before .before .before .before .before .before .args .list .now) (c .before .before .before .before .before .before .before .before .loop .at) (c .before .before .before .before .before .before .before .before .loop .count) (c .before .before .before .before .before .before .before .before .loop .inv .2) _ _ (here-placed (c .before .before .before .before .before .before .before .before .before .before .args .list .now) _ _ (c .before .before .before .before .before .before .next-declaration .ensures) (c .before .before .before .before .before .before .before .before .before .before .args .base) _ _ (c .before .before .before .before .sort .given .1)) (ap (λ l. declarationBreaks (c .before .before .before .before .before .before .before .before .before .before .args .rule) (take (c .before .before .before .before .before .before .before .before .loop .count) (declarationsIn (c .before .before .before .before .before .before .before .before .before .before .args .list .now))) (declarationIn (c .before .before .before .before .sort .given .0 .0) l)) (sym (c .before .before .payload-at .ensures)) ∙ sym (c .before .declaration-breaks .ensures) ∙ c .if1 .left) (walked-before (c .before .before .before .before .before .before .before .before .before .before .args .list .now) (c .before .before .before .before .before .before .before .before .loop .at) (c .before .before .before .before .before .before .before .before .loop .count) (c .before .before .before .before .before .before .before .before .loop .at + 3 + c .before .before .before .before .sort .given .0 .1 .0) (c .before .before .before .before .before .before .before .before .loop .inv .1) _ more))
+
+pub declaration-broken-spec : {M : Type 1} → statement M
+declaration-broken-spec =
+    tie.close
+    (tie.spec
+    Inv-loop
+    μ-loop
+    loop-holds
+    sub-next-declaration
+    part-next-declaration-start
+    part-next-declaration-end
+    next-declaration-requires
+    enum-told
+    returns
+    enum-known-sort
+    payload-at-requires
+    declaration-breaks-requires
+    add-t15
+    returns-2
+    add-at
+    add-at-2
+    add-count
+    loop-less
+    loop-again)
