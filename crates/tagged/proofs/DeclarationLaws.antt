@@ -133,7 +133,8 @@ pub next-ended : (base : ℕ) (l : List ℕ) → nextIn l ≡ Next.Ended → dec
 unfolding nextIn declarationsAt
 next-ended base l e = go (openOf 0 0 l) refl e
   where
-    found : (s : Sort) (k : ℕ) → Whole l s k → (t : Bool) → isDeclaration s ≡ t → onDeclaration s (λ d. Next.Declaration d k) Next.Ended ≡ Next.Ended → readPlaced isDeclaration declarationRead base l ≡ []
+    found : (s : Sort) (k : ℕ) → Whole l s k → (t : Bool) → isDeclaration s ≡ t → onDeclaration s (λ d. Next.Declaration d k) Next.Ended ≡ Next.Ended → readPlaced
+        isDeclaration declarationRead base l ≡ []
     found s k w false off p = read-stop isDeclaration declarationRead base l w off
     found s k w true is p =
         let f = declaration-sort s is in

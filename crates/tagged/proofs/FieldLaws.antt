@@ -35,6 +35,21 @@ module _ (base owner : ℕ) (l : List ℕ) where
       let room : sizeOf l ≤ length l - 3 = omega (arith, w .size) in
       rw (w .sort, w .size, ne-eqb _ _ some, le-ltb _ _ long, le-leb _ _ room)
 
+  pub open-none : length l ≡ 0 → openOf base owner l ≡ Opened.Refused owner
+  unfolding openOf
+  open-none h = rw (eq-eqb _ _ h)
+
+  pub open-cut : (length l ≡ 0 → ⊥) → length l < 3 → openOf base owner l ≡ Opened.Refused base
+  unfolding openOf
+  open-cut some h = rw (ne-eqb _ _ some, lt-ltb _ _ h)
+
+  pub open-beyond : {n : ℕ} → n ≡ sizeOf l → 3 ≤ length l → length l < n + 3 → openOf base owner l ≡ Opened.Refused base
+  unfolding openOf
+  open-beyond {n} e h k =
+      let some : length l ≡ 0 → ⊥ = λ z. omega arith in
+      let over : length l - 3 < sizeOf l = omega (arith, e) in
+      rw (ne-eqb _ _ some, le-ltb _ _ h, lt-leb _ _ over)
+
   pub open-whole : {s : Sort} {n : ℕ} → openOf base owner l ≡ Opened.Field s n → Whole l s n
   unfolding openOf
   open-whole {s} {n} e = go (eqb (length l) 0) (ltb (length l) 3) (leb (sizeOf l) (length l - 3)) refl refl e

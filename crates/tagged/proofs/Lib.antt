@@ -1,4 +1,5 @@
 -- Laws of the tagged form, for this crate's proofs and for the crates above.
+pub mod AnswerLaws
 pub mod RangeLaws
 pub mod SortLaws
 pub mod ByteLaws
@@ -9,6 +10,8 @@ pub mod ListBytes
 pub mod ChoiceLaws
 pub mod NameLaws
 pub mod DeclarationLaws
+pub mod DeclarationBytes
 pub mod DeclarationWalks
 pub mod TableLaws
 pub mod RowLaws
+pub mod Cases

@@ -97,6 +97,10 @@ module _ (wanted : Sort → Bool) (body : Body) where
       first true is (Step.Refused y) p shorter =
           absurd (let g = many-refused wanted (fieldBy body) base owner (x ∷ l) some is y p in let z : _≡_ {A = ℕ} 0 1 = cc in omega arith)
 
+-- what follows begins no field that is wanted
+pub Stops : (Sort → Bool) → List ℕ → Type 0
+Stops wanted after = (length after ≡ 0 → ⊥) → wanted (sortOf (getD after 0 0)) ≡ false
+
 module _ {A : Type 0} (wanted : Sort → Bool) (body : Body) (read : Sort → List ℕ → A) (bytes : A → List ℕ) where
   -- from bytes: what is read of a list that was passed is written as it stood, and its places are those of its bytes
   pub record ManyRead (base : ℕ) (l : List ℕ) (m : ℕ) : Type 0 where
@@ -154,10 +158,6 @@ module _ {A : Type 0} (wanted : Sort → Bool) (body : Body) (read : Sort → Li
     none : Each []
     more : {a : A} {l : List A} → Stands a → Each l → Each (a ∷ l)
 
-  -- what follows begins no field that is wanted
-  pub Stops : List ℕ → Type 0
-  Stops after = (length after ≡ 0 → ⊥) → wanted (sortOf (getD after 0 0)) ≡ false
-
   module _ {a : A} (x : Stands a) (after : List ℕ) where
     stands-whole : Whole (bytes a ++ after) (x .sort) (length (x .payload))
     stands-whole =
@@ -173,7 +173,8 @@ module _ {A : Type 0} (wanted : Sort → Bool) (body : Body) (read : Sort → Li
     stands-length : length (bytes a) ≡ length (x .payload) + 3
     stands-length = rw (x .field) (field-length (tagOf (x .sort)) (x .payload))
 
-  pub list-many : {l : List A} (base owner : ℕ) (after : List ℕ) → Each l → Stops after → many wanted (fieldBy body) base owner (allBytesOf bytes l ++ after) ≡ Step.Past (length (allBytesOf bytes l))
+  pub list-many : {l : List A} (base owner : ℕ) (after : List ℕ) → Each l → Stops wanted after → many wanted (fieldBy body) base owner (allBytesOf bytes l ++ after) ≡ Step.Past
+      (length (allBytesOf bytes l))
   unfolding allBytesOf Stops
   list-many base owner [] none stops = many-none wanted (fieldBy body) base owner [] refl
   list-many base owner (y ∷ after) none stops = many-stop wanted (fieldBy body) base owner (y ∷ after) (λ e. omega arith) (stops (λ e. omega arith))
@@ -188,7 +189,7 @@ module _ {A : Type 0} (wanted : Sort → Bool) (body : Body) (read : Sort → Li
       rw append-assoc (turn ∙ ap (λ (r : List ℕ). further m (many wanted (fieldBy body) (base + m) owner r)) (stands-after x all)
       ∙ ap (further m) (list-many (base + m) owner after each stops) ∙ ap Step.Past (omega (arith, length-append (bytes a) (allBytesOf bytes l), stands-length x all)))
 
-  pub list-read : {l : List A} (base : ℕ) (after : List ℕ) → Each l → Stops after → readPlaced wanted read base (allBytesOf bytes l ++ after) ≡ placedBy bytes base l
+  pub list-read : {l : List A} (base : ℕ) (after : List ℕ) → Each l → Stops wanted after → readPlaced wanted read base (allBytesOf bytes l ++ after) ≡ placedBy bytes base l
   unfolding allBytesOf placedBy Stops
   list-read base [] none stops = none-read base [] (λ s n w. absurd (omega (arith, w .within)))
   list-read base (y ∷ after) none stops = none-read base (y ∷ after) (λ s n w. ap wanted (w .sort) ∙ stops (λ e. omega arith))

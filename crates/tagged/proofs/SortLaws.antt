@@ -35,36 +35,52 @@ sort-statement t h k = rw (range-above t 0x01 0x01 (omega arith), range-above t 
 
 pub sort-expression : (t : ℕ) → 0x20 ≤ t → t < 0x2B → sortOf t ≡ Sort.Expression (expressionSort t)
 unfolding sortOf
-sort-expression t h k = rw (range-above t 0x01 0x01 (omega arith), range-above t 0x02 0x03 (omega arith), range-above t 0x04 0x04 (omega arith), range-above t 0x10 0x15 (omega arith), range-above t 0x16 0x16 (omega arith), range-above t 0x17 0x17 (omega arith), range-within t 0x20 0x2A (omega arith) (omega arith))
+sort-expression t h k =
+    rw
+    (range-above t 0x01 0x01 (omega arith), range-above t 0x02 0x03 (omega arith), range-above t 0x04 0x04 (omega arith), range-above t 0x10 0x15 (omega arith), range-above t 0x16 0x16 (omega arith), range-above t 0x17 0x17 (omega arith), range-within t 0x20 0x2A (omega arith) (omega arith))
 
 pub sort-cell : (t : ℕ) → 0x30 ≤ t → t < 0x3B → sortOf t ≡ Sort.Cell (cellSort t)
 unfolding sortOf
-sort-cell t h k = rw (range-above t 0x01 0x01 (omega arith), range-above t 0x02 0x03 (omega arith), range-above t 0x04 0x04 (omega arith), range-above t 0x10 0x15 (omega arith), range-above t 0x16 0x16 (omega arith), range-above t 0x17 0x17 (omega arith), range-above t 0x20 0x2A (omega arith), range-within t 0x30 0x3A (omega arith) (omega arith))
+sort-cell t h k =
+    rw
+    (range-above t 0x01 0x01 (omega arith), range-above t 0x02 0x03 (omega arith), range-above t 0x04 0x04 (omega arith), range-above t 0x10 0x15 (omega arith), range-above t 0x16 0x16 (omega arith), range-above t 0x17 0x17 (omega arith), range-above t 0x20 0x2A (omega arith), range-within t 0x30 0x3A (omega arith) (omega arith))
 
 -- what lies between the ranges is unknown
 pub unknown-05 : (t : ℕ) → 0x05 ≤ t → t < 0x10 → sortOf t ≡ Sort.Unknown
 unfolding sortOf
-unknown-05 t h k = rw (range-above t 0x01 0x01 (omega arith), range-above t 0x02 0x03 (omega arith), range-above t 0x04 0x04 (omega arith), range-below t 0x10 0x15 (omega arith), range-below t 0x16 0x16 (omega arith), range-below t 0x17 0x17 (omega arith), range-below t 0x20 0x2A (omega arith), range-below t 0x30 0x3A (omega arith), range-below t 0x40 0x40 (omega arith), range-below t 0x81 0x81 (omega arith))
+unknown-05 t h k =
+    rw
+    (range-above t 0x01 0x01 (omega arith), range-above t 0x02 0x03 (omega arith), range-above t 0x04 0x04 (omega arith), range-below t 0x10 0x15 (omega arith), range-below t 0x16 0x16 (omega arith), range-below t 0x17 0x17 (omega arith), range-below t 0x20 0x2A (omega arith), range-below t 0x30 0x3A (omega arith), range-below t 0x40 0x40 (omega arith), range-below t 0x81 0x81 (omega arith))
 
 pub unknown-18 : (t : ℕ) → 0x18 ≤ t → t < 0x20 → sortOf t ≡ Sort.Unknown
 unfolding sortOf
-unknown-18 t h k = rw (range-above t 0x01 0x01 (omega arith), range-above t 0x02 0x03 (omega arith), range-above t 0x04 0x04 (omega arith), range-above t 0x10 0x15 (omega arith), range-above t 0x16 0x16 (omega arith), range-above t 0x17 0x17 (omega arith), range-below t 0x20 0x2A (omega arith), range-below t 0x30 0x3A (omega arith), range-below t 0x40 0x40 (omega arith), range-below t 0x81 0x81 (omega arith))
+unknown-18 t h k =
+    rw
+    (range-above t 0x01 0x01 (omega arith), range-above t 0x02 0x03 (omega arith), range-above t 0x04 0x04 (omega arith), range-above t 0x10 0x15 (omega arith), range-above t 0x16 0x16 (omega arith), range-above t 0x17 0x17 (omega arith), range-below t 0x20 0x2A (omega arith), range-below t 0x30 0x3A (omega arith), range-below t 0x40 0x40 (omega arith), range-below t 0x81 0x81 (omega arith))
 
 pub unknown-2B : (t : ℕ) → 0x2B ≤ t → t < 0x30 → sortOf t ≡ Sort.Unknown
 unfolding sortOf
-unknown-2B t h k = rw (range-above t 0x01 0x01 (omega arith), range-above t 0x02 0x03 (omega arith), range-above t 0x04 0x04 (omega arith), range-above t 0x10 0x15 (omega arith), range-above t 0x16 0x16 (omega arith), range-above t 0x17 0x17 (omega arith), range-above t 0x20 0x2A (omega arith), range-below t 0x30 0x3A (omega arith), range-below t 0x40 0x40 (omega arith), range-below t 0x81 0x81 (omega arith))
+unknown-2B t h k =
+    rw
+    (range-above t 0x01 0x01 (omega arith), range-above t 0x02 0x03 (omega arith), range-above t 0x04 0x04 (omega arith), range-above t 0x10 0x15 (omega arith), range-above t 0x16 0x16 (omega arith), range-above t 0x17 0x17 (omega arith), range-above t 0x20 0x2A (omega arith), range-below t 0x30 0x3A (omega arith), range-below t 0x40 0x40 (omega arith), range-below t 0x81 0x81 (omega arith))
 
 pub unknown-3B : (t : ℕ) → 0x3B ≤ t → t < 0x40 → sortOf t ≡ Sort.Unknown
 unfolding sortOf
-unknown-3B t h k = rw (range-above t 0x01 0x01 (omega arith), range-above t 0x02 0x03 (omega arith), range-above t 0x04 0x04 (omega arith), range-above t 0x10 0x15 (omega arith), range-above t 0x16 0x16 (omega arith), range-above t 0x17 0x17 (omega arith), range-above t 0x20 0x2A (omega arith), range-above t 0x30 0x3A (omega arith), range-below t 0x40 0x40 (omega arith), range-below t 0x81 0x81 (omega arith))
+unknown-3B t h k =
+    rw
+    (range-above t 0x01 0x01 (omega arith), range-above t 0x02 0x03 (omega arith), range-above t 0x04 0x04 (omega arith), range-above t 0x10 0x15 (omega arith), range-above t 0x16 0x16 (omega arith), range-above t 0x17 0x17 (omega arith), range-above t 0x20 0x2A (omega arith), range-above t 0x30 0x3A (omega arith), range-below t 0x40 0x40 (omega arith), range-below t 0x81 0x81 (omega arith))
 
 pub unknown-41 : (t : ℕ) → 0x41 ≤ t → t < 0x81 → sortOf t ≡ Sort.Unknown
 unfolding sortOf
-unknown-41 t h k = rw (range-above t 0x01 0x01 (omega arith), range-above t 0x02 0x03 (omega arith), range-above t 0x04 0x04 (omega arith), range-above t 0x10 0x15 (omega arith), range-above t 0x16 0x16 (omega arith), range-above t 0x17 0x17 (omega arith), range-above t 0x20 0x2A (omega arith), range-above t 0x30 0x3A (omega arith), range-above t 0x40 0x40 (omega arith), range-below t 0x81 0x81 (omega arith))
+unknown-41 t h k =
+    rw
+    (range-above t 0x01 0x01 (omega arith), range-above t 0x02 0x03 (omega arith), range-above t 0x04 0x04 (omega arith), range-above t 0x10 0x15 (omega arith), range-above t 0x16 0x16 (omega arith), range-above t 0x17 0x17 (omega arith), range-above t 0x20 0x2A (omega arith), range-above t 0x30 0x3A (omega arith), range-above t 0x40 0x40 (omega arith), range-below t 0x81 0x81 (omega arith))
 
 pub unknown-82 : (t : ℕ) → 0x82 ≤ t → sortOf t ≡ Sort.Unknown
 unfolding sortOf
-unknown-82 t h = rw (range-above t 0x01 0x01 (omega arith), range-above t 0x02 0x03 (omega arith), range-above t 0x04 0x04 (omega arith), range-above t 0x10 0x15 (omega arith), range-above t 0x16 0x16 (omega arith), range-above t 0x17 0x17 (omega arith), range-above t 0x20 0x2A (omega arith), range-above t 0x30 0x3A (omega arith), range-above t 0x40 0x40 (omega arith), range-above t 0x81 0x81 (omega arith))
+unknown-82 t h =
+    rw
+    (range-above t 0x01 0x01 (omega arith), range-above t 0x02 0x03 (omega arith), range-above t 0x04 0x04 (omega arith), range-above t 0x10 0x15 (omega arith), range-above t 0x16 0x16 (omega arith), range-above t 0x17 0x17 (omega arith), range-above t 0x20 0x2A (omega arith), range-above t 0x30 0x3A (omega arith), range-above t 0x40 0x40 (omega arith), range-above t 0x81 0x81 (omega arith))
 
 -- above the cells, all but a drive and a netlist are unknown
 pub unknown-high : (t : ℕ) → 0x3B ≤ t → (t ≡ 0x40 → ⊥) → (t ≡ 0x81 → ⊥) → sortOf t ≡ Sort.Unknown

@@ -1,7 +1,9 @@
 -- Answers: the numbers of document 01 for each case, and the values in which C gets them.
 use Prim.Native.Nat.{ℕ}
+use mathlib.Core.Bool.{cond}
 use mathlib.Core.List.{List, [], _∷_}
 use mathlib.Core.Path.{_≡_}
+use lib.Dec.{eqb}
 use Rattle.tagged.specs.declared.answers.Rule.{Rule}
 use Rattle.tagged.specs.declared.answers.Rule.the-variants as Rule
 use Rattle.tagged.specs.declared.answers.Answer.{Answer}
@@ -36,6 +38,29 @@ replyOf (Answer.Refused rule place) = record { number = numberOf rule; cells = 0
 unfoldable pub translationReply : Translation → Reply
 translationReply (Translation.Written length cells) = record { number = 0; cells = cells; at = length }
 translationReply (Translation.Refused rule place) = record { number = numberOf rule; cells = 0; at = place }
+
+-- and back: the rule with a number, the answer and the translation that a reply stands for
+unfoldable pub ruleOf : ℕ → Rule
+ruleOf n =
+    cond (eqb n 1) Rule.FileLength
+    (cond (eqb n 2) Rule.Form
+    (cond (eqb n 3) Rule.Value
+    (cond (eqb n 4) Rule.Name
+    (cond (eqb n 5) Rule.Count
+    (cond (eqb n 6) Rule.Reference
+    (cond (eqb n 7) Rule.Widths
+    (cond (eqb n 8) Rule.BitNumber
+    (cond (eqb n 9) Rule.BothKinds
+    (cond (eqb n 10) Rule.TwoProcesses
+    (cond (eqb n 11) Rule.ReadElsewhere
+    (cond (eqb n 12) Rule.Cells
+    (cond (eqb n 13) Rule.Buffer Rule.Row))))))))))))
+
+unfoldable pub answerOf : Reply → Answer
+answerOf r = cond (eqb (r .number) 0) Answer.Accepted (Answer.Refused (ruleOf (r .number)) (r .at))
+
+unfoldable pub translationOf : Reply → Translation
+translationOf r = cond (eqb (r .number) 0) (Translation.Written (r .at) (r .cells)) (Translation.Refused (ruleOf (r .number)) (r .at))
 
 -- what a call promises, on every input: the answer wanted, and what the lent memory is then
 pub record Promise {A : Type 0} (wanted : A) (left : List ℕ) (answer : A) (lent : List ℕ) : Type 0 where

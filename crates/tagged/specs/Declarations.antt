@@ -42,6 +42,11 @@ abbrev pub isRegister : Declaration → Bool
 isRegister (input width name) = false
 isRegister (register width initial name) = true
 
+-- the value that a register starts from; no run uses it, and an input has none
+abbrev pub initialOf : Declaration → ℕ
+initialOf (input width name) = 0
+initialOf (register width initial name) = initial
+
 -- how they are written
 
 abbrev pub sortOfDeclaration : Declaration → DeclarationSort

@@ -196,7 +196,13 @@ fn count_broken(count: usize) -> bool
 }
 
 // Does a declaration break this rule, after the first ones of its list, so many of them?
-fn declaration_breaks(rule: Rule, sort: DeclarationSort, payload: &[u8], list: &[u8], count: usize) -> bool
+fn declaration_breaks(
+    rule: Rule,
+    sort: DeclarationSort,
+    payload: &[u8],
+    list: &[u8],
+    count: usize,
+) -> bool
     requires { ⌜ (length (now list) ≤ 2 ^ 40) × (count ≤ length (declarationsIn (now list))) × (count ≤ 2 ^ 40) ⌝ }
     ensures { λ r. ⌜ r ≡ declarationBreaks rule (take count (declarationsIn (now (list .entry)))) (declarationIn sort (now (payload .entry))) ⌝ }
 {

@@ -10,11 +10,12 @@ use Rattle.words.specs.Bits.{bit, onesBelow, parity, inverted, sum, same
 use Rattle.words.specs.declared.WidthMade.{WidthMade}
 use Rattle.words.specs.declared.WidthMade.the-variants.{Good, Refused}
 
+-- a closed case: what the definitions give, and what it should be; for the tables of the crates above too
 pub record Case : Type 0 where
   pub given : ℕ
   pub wanted : ℕ
 
-abbrev passes : List Case → Bool
+abbrev pub passes : List Case → Bool
 passes [] = true
 passes (k ∷ ks) = eqb (k .given) (k .wanted) && passes ks
 
@@ -23,10 +24,10 @@ abbrev made : WidthMade → ℕ
 made (Good w) = w .bits
 made Refused = 999
 
-abbrev flag : Bool → ℕ
+abbrev pub flag : Bool → ℕ
 flag t = cond t 1 0
 
-abbrev case : ℕ → ℕ → Case
+abbrev pub case : ℕ → ℕ → Case
 case g w = record { given = g; wanted = w }
 
 unfoldable pub table : List Case

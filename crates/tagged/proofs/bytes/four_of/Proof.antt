@@ -21,7 +21,10 @@ number-of-four-requires c κs = search needs
 
 returns : tie.Need-returns
 unfolding fourOf
-returns c = rw (← c .before .before .before .before .byte-at .ensures, ← c .before .before .before .byte-at2 .ensures, ← c .before .before .byte-at3 .ensures, ← c .before .byte-at4 .ensures) (c .number-of-four .ensures)
+returns c =
+    rw
+    (← c .before .before .before .before .byte-at .ensures, ← c .before .before .before .byte-at2 .ensures, ← c .before .before .byte-at3 .ensures, ← c .before .byte-at4 .ensures)
+    (c .number-of-four .ensures)
 
 pub four-of-spec : {M : Type 1} → statement M
 four-of-spec =

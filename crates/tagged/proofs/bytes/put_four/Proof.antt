@@ -35,7 +35,11 @@ same-length c = search needs
 returns : tie.Need-returns
 unfolding fourBytes
 returns c =
-    wrote-then (c .before .before .before .before .before .before .before .before .before .before .before .before .before .before .put-byte .ensures) (wrote-then (c .before .before .before .before .before .before .before .before .before .before .put-byte2 .ensures) (wrote-then (c .before .before .before .before .before .before .put-byte3 .ensures) (c .before .before .put-byte4 .ensures)))
+    let put-byte = c .before .before .before .before .before .before .before .before .before .before .before .before .before .before .put-byte in
+    let put-byte2 = c .before .before .before .before .before .before .before .before .before .before .put-byte2 in
+    let put-byte3 = c .before .before .before .before .before .before .put-byte3 in
+    let put-byte4 = c .before .before .put-byte4 in
+    wrote-then (put-byte .ensures) (wrote-then (put-byte2 .ensures) (wrote-then (put-byte3 .ensures) (put-byte4 .ensures)))
 
 pub put-four-spec : {M : Type 1} → statement M
 put-four-spec =

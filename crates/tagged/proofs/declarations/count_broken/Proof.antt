@@ -23,13 +23,13 @@ enum-told-2 : tie.Need-enum-told-2
 enum-told-2 c = search needs
 
 returns : tie.Need-returns
-returns c = 
+returns c =
     let good = sym (c .before .before .new .ensures) ∙ c .enum-told .given .1 in
     let few : c .before .before .before .args .count + 1 ≤ mostVariables = leb-true _ _ (first-taken (leb (c .before .before .before .args .count + 1) mostVariables) _ _ good (λ e. let z : _≡_ {A = ℕ} 0 1 = cc in omega arith)) in
     sym (lt-leb mostVariables (c .before .before .before .args .count) (omega arith))
 
 returns-2 : tie.Need-returns-2
-returns-2 c = 
+returns-2 c =
     let refused = sym (c .before .before .new .ensures) ∙ c .enum-told2 .given .1 in
     let many : mostVariables < c .before .before .before .args .count + 1 = leb-false _ _ (second-taken (leb (c .before .before .before .args .count + 1) mostVariables) _ _ refused (λ e. let z : _≡_ {A = ℕ} 0 1 = cc in omega arith)) in
     sym (le-leb mostVariables (c .before .before .before .args .count) (omega arith))

@@ -14,7 +14,11 @@ enum-known-sort : tie.Need-enum-known-sort
 enum-known-sort c = search needs
 
 add-declaration-body : tie.Need-add-declaration-body
-add-declaration-body c = omega (arith, open-whole _ _ (c .before .before .before .before .before .args .part .now) (sym (c .before .before .before .open-field .ensures) ∙ c .before .sort .given .1) .within)
+add-declaration-body c =
+    let args = c .before .before .before .before .before .args in
+    let open-field = c .before .before .before .open-field in
+    let sort = c .before .sort in
+    omega (arith, open-whole _ _ (args .part .now) (sym (open-field .ensures) ∙ sort .given .1) .within)
 
 sub-declaration-body : tie.Need-sub-declaration-body
 sub-declaration-body c = search needs
@@ -23,13 +27,21 @@ part-declaration-body-start : tie.Need-part-declaration-body-start
 part-declaration-body-start c = search needs
 
 part-declaration-body-end : tie.Need-part-declaration-body-end
-part-declaration-body-end c = omega (arith, open-whole _ _ (c .before .before .before .before .before .args .part .now) (sym (c .before .before .before .open-field .ensures) ∙ c .before .sort .given .1) .within)
+part-declaration-body-end c =
+    let args = c .before .before .before .before .before .args in
+    let open-field = c .before .before .before .open-field in
+    let sort = c .before .sort in
+    omega (arith, open-whole _ _ (args .part .now) (sym (open-field .ensures) ∙ sort .given .1) .within)
 
 declaration-body-requires : tie.Need-declaration-body-requires
 declaration-body-requires c κs = search needs
 
 add-passed : tie.Need-add-passed
-add-passed c = omega (arith, open-whole _ _ (c .before .before .before .before .before .before .before .args .part .now) (sym (c .before .before .before .before .before .open-field .ensures) ∙ c .before .before .before .sort .given .1) .within)
+add-passed c =
+    let args = c .before .before .before .before .before .before .before .args in
+    let open-field = c .before .before .before .before .before .open-field in
+    let sort = c .before .before .before .sort in
+    omega (arith, open-whole _ _ (args .part .now) (sym (open-field .ensures) ∙ sort .given .1) .within)
 
 passed-requires : tie.Need-passed-requires
 passed-requires c κs = search needs
@@ -38,10 +50,20 @@ enum-known-place : tie.Need-enum-known-place
 enum-known-place c = search needs
 
 returns : tie.Need-returns
-returns c = field-past _ _ (c .before .before .before .before .before .before .before .before .args .part .now) _ (c .before .before .before .before .before .before .open-field .ensures) declarationBody _ _ (c .before .before .before .before .sort .given .1) _ (c .before .declaration-body .ensures) _ (c .passed .ensures)
+returns c =
+    let args = c .before .before .before .before .before .before .before .before .args in
+    let open-field = c .before .before .before .before .before .before .open-field in
+    let sort = c .before .before .before .before .sort in
+    let declaration-body = c .before .declaration-body in
+    let passed = c .passed in
+    field-past _ _ (args .part .now) _ (open-field .ensures) declarationBody _ _ (sort .given .1) _ (declaration-body .ensures) _ (passed .ensures)
 
 returns-2 : tie.Need-returns-2
-returns-2 c = field-refused _ _ (c .before .before .before .before .before .args .part .now) _ (c .before .before .before .open-field .ensures) declarationBody _ (c .before .place .given .1)
+returns-2 c =
+    let args = c .before .before .before .before .before .args in
+    let open-field = c .before .before .before .open-field in
+    let place = c .before .place in
+    field-refused _ _ (args .part .now) _ (open-field .ensures) declarationBody _ (place .given .1)
 
 pub declaration-spec : {M : Type 1} → statement M
 declaration-spec =

@@ -14,13 +14,13 @@ fixed-bytes-requires : tie.Need-fixed-bytes-requires
 fixed-bytes-requires c κs = search needs
 
 returns : tie.Need-returns
-returns c = 
+returns c =
     let told = c .before .before .before .sort .given in
     let a = c .before .before .before .before .before .before .args in
     sym (ap (λ s. declarationBody (a .at) s (a .payload .now)) (told .1) ∙ body-short (a .at) (told .0 .0) (a .payload .now) (omega (arith, c .if1 .taken, c .before .fixed-bytes .ensures)))
 
 returns-2 : tie.Need-returns-2
-returns-2 c = 
+returns-2 c =
     let told = c .before .before .before .sort .given in
     let a = c .before .before .before .before .before .before .args in
     sym (ap (λ s. declarationBody (a .at) s (a .payload .now)) (told .1) ∙ body-fine (a .at) (told .0 .0) (a .payload .now) (omega (arith, c .if1 .left, c .before .fixed-bytes .ensures)))

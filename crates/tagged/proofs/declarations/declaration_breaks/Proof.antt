@@ -34,7 +34,9 @@ returns-2 c = rw (c .before .enum-told2 .given .1) (c .name-broken .ensures)
 
 returns-3 : tie.Need-returns-3
 unfolding declarationBreaks
-returns-3 c = rw (c .before .enum-told3 .given .1) (c .count-broken .ensures ∙ sym (count-taken (declarationsIn (c .before .before .before .before .before .args .list .now)) _ _ (c .before .before .before .before .before .pre .1)))
+returns-3 c =
+    rw (c .before .enum-told3 .given .1)
+    (c .count-broken .ensures ∙ sym (count-taken (declarationsIn (c .before .before .before .before .before .args .list .now)) _ _ (c .before .before .before .before .before .pre .1)))
 
 returns-4 : tie.Need-returns-4
 returns-4 c = sym (other-rule (c .before .before .before .args .rule) (c .match .keys4) _ _)

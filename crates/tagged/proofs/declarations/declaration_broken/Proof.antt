@@ -12,7 +12,9 @@ use Rattle.tagged.proofs.declarations.declaration_broken.Statement.{sta
 use Rattle.tagged.proofs.declarations.declaration_broken.Tie as tie
 
 abbrev Inv-loop : tie.InvT-loop
-Inv-loop rule list base at₀ count₀ at count = (at ≤ length list) × Walked list at count × (firstBroken (declarationBreaks rule) [] (declarationsAt base list) ≡ firstBroken (declarationBreaks rule) (take count (declarationsIn list)) (declarationsAt (base + at) (drop at list)))
+Inv-loop rule list base at₀ count₀ at count =
+    (at ≤ length list) × Walked list at count
+    × (firstBroken (declarationBreaks rule) [] (declarationsAt base list) ≡ firstBroken (declarationBreaks rule) (take count (declarationsIn list)) (declarationsAt (base + at) (drop at list)))
 
 abbrev μ-loop : tie.MeasureT-loop
 μ-loop rule list base at₀ count₀ at count = length list - at
@@ -36,39 +38,93 @@ enum-told : tie.Need-enum-told Inv-loop μ-loop
 enum-told c = search needs
 
 returns : tie.Need-returns Inv-loop μ-loop
-returns c = broken-none (declarationBreaks (c .before .before .before .before .before .before .args .rule)) (c .before .before .before .before .before .before .args .base) (c .before .before .before .before .before .before .args .list .now) (c .before .before .before .before .loop .at) (c .before .before .before .before .loop .count) (c .before .before .before .before .loop .inv .2) (here-ended (c .before .before .before .before .before .before .args .list .now) _ _ (c .before .before .next-declaration .ensures) _ (c .enum-told .given .1))
+returns c =
+    let args = c .before .before .before .before .before .before .args in
+    let loop = c .before .before .before .before .loop in
+    let next-declaration = c .before .before .next-declaration in
+    let enum-told = c .enum-told in
+    broken-none (declarationBreaks (args .rule)) (args .base) (args .list .now) (loop .at) (loop .count) (loop .inv .2)
+    (here-ended (args .list .now) _ _ (next-declaration .ensures) _ (enum-told .given .1))
 
 enum-known-sort : tie.Need-enum-known-sort Inv-loop μ-loop
 enum-known-sort c = search needs
 
 payload-at-requires : tie.Need-payload-at-requires Inv-loop μ-loop
-payload-at-requires c κs = (omega (arith, here-within (c .before .before .before .before .before .before .before .args .list .now) _ _ (c .before .before .before .next-declaration .ensures) _ _ (c .before .sort .given .1)), omega (arith, c .before .before .before .before .before .before .before .pre))
+payload-at-requires c κs =
+    let args = c .before .before .before .before .before .before .before .args in
+    let next-declaration = c .before .before .before .next-declaration in
+    let sort = c .before .sort in
+    let pre = c .before .before .before .before .before .before .before .pre in
+    (omega (arith, here-within (args .list .now) _ _ (next-declaration .ensures) _ _ (sort .given .1)), omega (arith, pre))
 
 declaration-breaks-requires : tie.Need-declaration-breaks-requires Inv-loop μ-loop
-declaration-breaks-requires c κs = (omega (arith, c .before .before .before .before .before .before .before .before .pre), c .before .before .before .before .before .before .loop .inv .1 .counted, omega (arith, c .before .before .before .before .before .before .before .before .pre, c .before .before .before .before .before .before .loop .inv .1 .sized, c .before .before .before .before .before .before .loop .inv .0))
+declaration-breaks-requires c κs =
+    let pre = c .before .before .before .before .before .before .before .before .pre in
+    let loop = c .before .before .before .before .before .before .loop in
+    (omega (arith, pre), loop .inv .1 .counted, omega (arith, pre, loop .inv .1 .sized, loop .inv .0))
 
 add-t15 : tie.Need-add-t15 Inv-loop μ-loop
 add-t15 c = search needs
 
 returns-2 : tie.Need-returns-2 Inv-loop μ-loop
-returns-2 c = broken-here (declarationBreaks (c .before .before .before .before .before .before .before .before .before .before .args .rule)) (c .before .before .before .before .before .before .before .before .before .before .args .base) (c .before .before .before .before .before .before .before .before .before .before .args .list .now) (c .before .before .before .before .before .before .before .before .loop .at) (c .before .before .before .before .before .before .before .before .loop .count) (c .before .before .before .before .before .before .before .before .loop .inv .2) _ _ (here-placed (c .before .before .before .before .before .before .before .before .before .before .args .list .now) _ _ (c .before .before .before .before .before .before .next-declaration .ensures) (c .before .before .before .before .before .before .before .before .before .before .args .base) _ _ (c .before .before .before .before .sort .given .1)) (ap (λ l. declarationBreaks (c .before .before .before .before .before .before .before .before .before .before .args .rule) (take (c .before .before .before .before .before .before .before .before .loop .count) (declarationsIn (c .before .before .before .before .before .before .before .before .before .before .args .list .now))) (declarationIn (c .before .before .before .before .sort .given .0 .0) l)) (sym (c .before .before .payload-at .ensures)) ∙ sym (c .before .declaration-breaks .ensures) ∙ c .if1 .taken)
+returns-2 c =
+    let args = c .before .before .before .before .before .before .before .before .before .before .args in
+    let loop = c .before .before .before .before .before .before .before .before .loop in
+    let next-declaration = c .before .before .before .before .before .before .next-declaration in
+    let sort = c .before .before .before .before .sort in
+    let payload-at = c .before .before .payload-at in
+    let declaration-breaks = c .before .declaration-breaks in
+    let if1 = c .if1 in
+    broken-here (declarationBreaks (args .rule)) (args .base) (args .list .now) (loop .at) (loop .count) (loop .inv .2) _ _
+    (here-placed (args .list .now) _ _ (next-declaration .ensures) (args .base) _ _ (sort .given .1))
+    (ap (λ l. declarationBreaks (args .rule) (take (loop .count) (declarationsIn (args .list .now))) (declarationIn (sort .given .0 .0) l)) (sym (payload-at .ensures)) ∙ sym (declaration-breaks .ensures) ∙ if1 .taken)
 
 add-at : tie.Need-add-at Inv-loop μ-loop
-add-at c = omega (arith, here-within (c .before .before .before .before .before .before .before .before .before .before .args .list .now) _ _ (c .before .before .before .before .before .before .next-declaration .ensures) _ _ (c .before .before .before .before .sort .given .1), c .before .before .before .before .before .before .before .before .before .before .pre)
+add-at c =
+    let args = c .before .before .before .before .before .before .before .before .before .before .args in
+    let next-declaration = c .before .before .before .before .before .before .next-declaration in
+    let sort = c .before .before .before .before .sort in
+    let pre = c .before .before .before .before .before .before .before .before .before .before .pre in
+    omega (arith, here-within (args .list .now) _ _ (next-declaration .ensures) _ _ (sort .given .1), pre)
 
 add-at-2 : tie.Need-add-at-2 Inv-loop μ-loop
-add-at-2 c = omega (arith, here-within (c .before .before .before .before .before .before .before .before .before .before .args .list .now) _ _ (c .before .before .before .before .before .before .next-declaration .ensures) _ _ (c .before .before .before .before .sort .given .1), c .before .before .before .before .before .before .before .before .before .before .pre)
+add-at-2 c =
+    let args = c .before .before .before .before .before .before .before .before .before .before .args in
+    let next-declaration = c .before .before .before .before .before .before .next-declaration in
+    let sort = c .before .before .before .before .sort in
+    let pre = c .before .before .before .before .before .before .before .before .before .before .pre in
+    omega (arith, here-within (args .list .now) _ _ (next-declaration .ensures) _ _ (sort .given .1), pre)
 
 add-count : tie.Need-add-count Inv-loop μ-loop
-add-count c = omega (arith, c .before .before .before .before .before .before .before .before .before .before .pre, c .before .before .before .before .before .before .before .before .loop .inv .1 .sized, c .before .before .before .before .before .before .before .before .loop .inv .0)
+add-count c =
+    let pre = c .before .before .before .before .before .before .before .before .before .before .pre in
+    let loop = c .before .before .before .before .before .before .before .before .loop in
+    omega (arith, pre, loop .inv .1 .sized, loop .inv .0)
 
 loop-less : tie.Need-loop-less Inv-loop μ-loop
-loop-less c = omega (arith, here-within (c .before .before .before .before .before .before .before .before .before .before .args .list .now) _ _ (c .before .before .before .before .before .before .next-declaration .ensures) _ _ (c .before .before .before .before .sort .given .1))
+loop-less c =
+    let args = c .before .before .before .before .before .before .before .before .before .before .args in
+    let next-declaration = c .before .before .before .before .before .before .next-declaration in
+    let sort = c .before .before .before .before .sort in
+    omega (arith, here-within (args .list .now) _ _ (next-declaration .ensures) _ _ (sort .given .1))
 
 loop-again : tie.Need-loop-again Inv-loop μ-loop
-loop-again c = 
-    let more = here-more (c .before .before .before .before .before .before .before .before .before .before .args .list .now) _ _ (c .before .before .before .before .before .before .next-declaration .ensures) _ _ (c .before .before .before .before .sort .given .1) in
-    (omega (arith, here-within (c .before .before .before .before .before .before .before .before .before .before .args .list .now) _ _ (c .before .before .before .before .before .before .next-declaration .ensures) _ _ (c .before .before .before .before .sort .given .1)), walked-more (c .before .before .before .before .before .before .before .before .before .before .args .list .now) (c .before .before .before .before .before .before .before .before .loop .at) (c .before .before .before .before .before .before .before .before .loop .count) (c .before .before .before .before .before .before .before .before .loop .at + 3 + c .before .before .before .before .sort .given .0 .1 .0) (c .before .before .before .before .before .before .before .before .loop .inv .1) _ more (omega arith), broken-later (declarationBreaks (c .before .before .before .before .before .before .before .before .before .before .args .rule)) (c .before .before .before .before .before .before .before .before .before .before .args .base) (c .before .before .before .before .before .before .before .before .before .before .args .list .now) (c .before .before .before .before .before .before .before .before .loop .at) (c .before .before .before .before .before .before .before .before .loop .count) (c .before .before .before .before .before .before .before .before .loop .inv .2) _ _ (here-placed (c .before .before .before .before .before .before .before .before .before .before .args .list .now) _ _ (c .before .before .before .before .before .before .next-declaration .ensures) (c .before .before .before .before .before .before .before .before .before .before .args .base) _ _ (c .before .before .before .before .sort .given .1)) (ap (λ l. declarationBreaks (c .before .before .before .before .before .before .before .before .before .before .args .rule) (take (c .before .before .before .before .before .before .before .before .loop .count) (declarationsIn (c .before .before .before .before .before .before .before .before .before .before .args .list .now))) (declarationIn (c .before .before .before .before .sort .given .0 .0) l)) (sym (c .before .before .payload-at .ensures)) ∙ sym (c .before .declaration-breaks .ensures) ∙ c .if1 .left) (walked-before (c .before .before .before .before .before .before .before .before .before .before .args .list .now) (c .before .before .before .before .before .before .before .before .loop .at) (c .before .before .before .before .before .before .before .before .loop .count) (c .before .before .before .before .before .before .before .before .loop .at + 3 + c .before .before .before .before .sort .given .0 .1 .0) (c .before .before .before .before .before .before .before .before .loop .inv .1) _ more))
+loop-again c =
+    let args = c .before .before .before .before .before .before .before .before .before .before .args in
+    let next-declaration = c .before .before .before .before .before .before .next-declaration in
+    let sort = c .before .before .before .before .sort in
+    let loop = c .before .before .before .before .before .before .before .before .loop in
+    let payload-at = c .before .before .payload-at in
+    let declaration-breaks = c .before .declaration-breaks in
+    let if1 = c .if1 in
+    let more = here-more (args .list .now) _ _ (next-declaration .ensures) _ _ (sort .given .1) in (
+      omega (arith, here-within (args .list .now) _ _ (next-declaration .ensures) _ _ (sort .given .1)),
+      walked-more (args .list .now) (loop .at) (loop .count) (loop .at + 3 + sort .given .0 .1 .0) (loop .inv .1) _ more (omega arith),
+      broken-later (declarationBreaks (args .rule)) (args .base) (args .list .now) (loop .at) (loop .count) (loop .inv .2) _ _
+          (here-placed (args .list .now) _ _ (next-declaration .ensures) (args .base) _ _ (sort .given .1))
+          (ap (λ l. declarationBreaks (args .rule) (take (loop .count) (declarationsIn (args .list .now))) (declarationIn (sort .given .0 .0) l)) (sym (payload-at .ensures)) ∙ sym (declaration-breaks .ensures) ∙ if1 .left)
+          (walked-before (args .list .now) (loop .at) (loop .count) (loop .at + 3 + sort .given .0 .1 .0) (loop .inv .1) _ more),
+    )
 
 pub declaration-broken-spec : {M : Type 1} → statement M
 declaration-broken-spec =

@@ -16,7 +16,9 @@ use Rattle.tagged.proofs.declarations.declarations.Statement.{statement
 use Rattle.tagged.proofs.declarations.declarations.Tie as tie
 
 abbrev Inv-loop : tie.InvT-loop
-Inv-loop part base owner at₀ at = (at ≤ length part) × (many isDeclaration (fieldBy declarationBody) base owner part ≡ further at (many isDeclaration (fieldBy declarationBody) (base + at) owner (drop at part)))
+Inv-loop part base owner at₀ at =
+    (at ≤ length part)
+    × (many isDeclaration (fieldBy declarationBody) base owner part ≡ further at (many isDeclaration (fieldBy declarationBody) (base + at) owner (drop at part)))
 
 abbrev μ-loop : tie.MeasureT-loop
 μ-loop part base owner at₀ at = length part - at
@@ -32,7 +34,14 @@ begins-declaration-requires c κs = search needs
 
 returns : tie.Need-returns Inv-loop μ-loop
 unfolding declarationsStep
-returns c = turn-stop isDeclaration (fieldBy declarationBody) _ _ (c .before .before .before .before .before .before .args .part .now) _ (c .before .before .before .before .loop .inv .1) (c .before .before .before .loop-test .taken) (ap (λ x. isDeclaration (sortOf x)) (front (c .before .before .before .before .before .before .args .part .now) (c .before .before .before .before .loop .at)) ∙ sym (c .before .begins-declaration .ensures) ∙ not-true _ (c .if1 .taken))
+returns c =
+    let args = c .before .before .before .before .before .before .args in
+    let loop = c .before .before .before .before .loop in
+    let loop-test = c .before .before .before .loop-test in
+    let begins-declaration = c .before .begins-declaration in
+    let if1 = c .if1 in
+    turn-stop isDeclaration (fieldBy declarationBody) _ _ (args .part .now) _ (loop .inv .1) (loop-test .taken)
+    (ap (λ x. isDeclaration (sortOf x)) (front (args .part .now) (loop .at)) ∙ sym (begins-declaration .ensures) ∙ not-true _ (if1 .taken))
 
 sub-declaration : tie.Need-sub-declaration Inv-loop μ-loop
 sub-declaration c = search needs
@@ -53,24 +62,59 @@ enum-known-bytes : tie.Need-enum-known-bytes Inv-loop μ-loop
 enum-known-bytes c = search needs
 
 add-at : tie.Need-add-at Inv-loop μ-loop
-add-at c = omega (arith, past-within declarationBody _ _ _ _ _ (c .before .before .before .declaration .ensures) (c .before .bytes .given .1), c .before .before .before .before .declaration-arg .given)
+add-at c =
+    let declaration = c .before .before .before .declaration in
+    let bytes = c .before .bytes in
+    let declaration-arg = c .before .before .before .before .declaration-arg in
+    omega (arith, past-within declarationBody _ _ _ _ _ (declaration .ensures) (bytes .given .1), declaration-arg .given)
 
 loop-less : tie.Need-loop-less Inv-loop μ-loop
-loop-less c = omega (arith, past-within declarationBody _ _ _ _ _ (c .before .before .before .declaration .ensures) (c .before .bytes .given .1), c .before .before .before .before .declaration-arg .given)
+loop-less c =
+    let declaration = c .before .before .before .declaration in
+    let bytes = c .before .bytes in
+    let declaration-arg = c .before .before .before .before .declaration-arg in
+    omega (arith, past-within declarationBody _ _ _ _ _ (declaration .ensures) (bytes .given .1), declaration-arg .given)
 
 loop-again : tie.Need-loop-again Inv-loop μ-loop
-loop-again c = (omega (arith, past-within declarationBody _ _ _ _ _ (c .before .before .before .declaration .ensures) (c .before .bytes .given .1), c .before .before .before .before .declaration-arg .given), turn-past isDeclaration (fieldBy declarationBody) _ _ (c .before .before .before .before .before .before .before .before .before .before .before .args .part .now) _ (c .before .before .before .before .before .before .before .before .before .loop .inv .1) (c .before .before .before .before .before .before .before .before .loop-test .taken) (ap (λ x. isDeclaration (sortOf x)) (front (c .before .before .before .before .before .before .before .before .before .before .before .args .part .now) (c .before .before .before .before .before .before .before .before .before .loop .at)) ∙ sym (c .before .before .before .before .before .before .begins-declaration .ensures) ∙ not-false _ (c .before .before .before .before .before .if1 .left)) _ (c .before .before .before .declaration .ensures) _ (c .before .bytes .given .1) (past-within declarationBody _ _ _ _ _ (c .before .before .before .declaration .ensures) (c .before .bytes .given .1)))
+loop-again c =
+    let declaration = c .before .before .before .declaration in
+    let bytes = c .before .bytes in
+    let declaration-arg = c .before .before .before .before .declaration-arg in
+    let args = c .before .before .before .before .before .before .before .before .before .before .before .args in
+    let loop = c .before .before .before .before .before .before .before .before .before .loop in
+    let loop-test = c .before .before .before .before .before .before .before .before .loop-test in
+    let begins-declaration = c .before .before .before .before .before .before .begins-declaration in
+    let if1 = c .before .before .before .before .before .if1 in (
+      omega (arith, past-within declarationBody _ _ _ _ _ (declaration .ensures) (bytes .given .1), declaration-arg .given),
+      turn-past isDeclaration (fieldBy declarationBody) _ _ (args .part .now) _ (loop .inv .1) (loop-test .taken)
+          (ap (λ x. isDeclaration (sortOf x)) (front (args .part .now) (loop .at)) ∙ sym (begins-declaration .ensures) ∙ not-false _ (if1 .left)) _ (declaration .ensures) _
+          (bytes .given .1) (past-within declarationBody _ _ _ _ _ (declaration .ensures) (bytes .given .1)),
+    )
 
 enum-known-place : tie.Need-enum-known-place Inv-loop μ-loop
 enum-known-place c = search needs
 
 returns-2 : tie.Need-returns-2 Inv-loop μ-loop
 unfolding declarationsStep
-returns-2 c = turn-refused isDeclaration (fieldBy declarationBody) _ _ (c .before .before .before .before .before .before .before .before .before .before .before .args .part .now) _ (c .before .before .before .before .before .before .before .before .before .loop .inv .1) (c .before .before .before .before .before .before .before .before .loop-test .taken) (ap (λ x. isDeclaration (sortOf x)) (front (c .before .before .before .before .before .before .before .before .before .before .before .args .part .now) (c .before .before .before .before .before .before .before .before .before .loop .at)) ∙ sym (c .before .before .before .before .before .before .begins-declaration .ensures) ∙ not-false _ (c .before .before .before .before .before .if1 .left)) _ (c .before .before .before .declaration .ensures) _ (c .before .place .given .1)
+returns-2 c =
+    let args = c .before .before .before .before .before .before .before .before .before .before .before .args in
+    let loop = c .before .before .before .before .before .before .before .before .before .loop in
+    let loop-test = c .before .before .before .before .before .before .before .before .loop-test in
+    let begins-declaration = c .before .before .before .before .before .before .begins-declaration in
+    let if1 = c .before .before .before .before .before .if1 in
+    let declaration = c .before .before .before .declaration in
+    let place = c .before .place in
+    turn-refused isDeclaration (fieldBy declarationBody) _ _ (args .part .now) _ (loop .inv .1) (loop-test .taken)
+    (ap (λ x. isDeclaration (sortOf x)) (front (args .part .now) (loop .at)) ∙ sym (begins-declaration .ensures) ∙ not-false _ (if1 .left)) _ (declaration .ensures) _
+    (place .given .1)
 
 returns-3 : tie.Need-returns-3 Inv-loop μ-loop
 unfolding declarationsStep
-returns-3 c = turn-done isDeclaration (fieldBy declarationBody) _ _ (c .before .before .before .args .part .now) _ (c .before .loop .inv .1) (c .loop-test .left)
+returns-3 c =
+    let args = c .before .before .before .args in
+    let loop = c .before .loop in
+    let loop-test = c .loop-test in
+    turn-done isDeclaration (fieldBy declarationBody) _ _ (args .part .now) _ (loop .inv .1) (loop-test .left)
 
 pub declarations-spec : {M : Type 1} → statement M
 declarations-spec =

@@ -19,10 +19,24 @@ name-taken-requires : tie.Need-name-taken-requires
 name-taken-requires c κs = search needs
 
 returns : tie.Need-returns
-returns c = c .name-taken .ensures ∙ sym (name-good _ _ _ (c .before .before .before .from .ensures ∙ ap (λ k. drop k (c .before .before .before .before .before .before .before .args .payload .now)) (c .before .before .before .before .fixed-bytes .ensures) ∙ sym (name-in (c .before .before .before .before .before .before .before .args .sort) (c .before .before .before .before .before .before .before .args .payload .now))) (sym (c .before .before .is-name .ensures) ∙ c .before .if1 .taken))
+returns c =
+    let name-taken = c .name-taken in
+    let from = c .before .before .before .from in
+    let args = c .before .before .before .before .before .before .before .args in
+    let fixed-bytes = c .before .before .before .before .fixed-bytes in
+    let is-name = c .before .before .is-name in
+    let if1 = c .before .if1 in
+    name-taken .ensures ∙ sym
+    (name-good _ _ _ (from .ensures ∙ ap (λ k. drop k (args .payload .now)) (fixed-bytes .ensures) ∙ sym (name-in (args .sort) (args .payload .now))) (sym (is-name .ensures) ∙ if1 .taken))
 
 returns-2 : tie.Need-returns-2
-returns-2 c = sym (name-bad _ _ _ (c .before .before .from .ensures ∙ ap (λ k. drop k (c .before .before .before .before .before .before .args .payload .now)) (c .before .before .before .fixed-bytes .ensures) ∙ sym (name-in (c .before .before .before .before .before .before .args .sort) (c .before .before .before .before .before .before .args .payload .now))) (sym (c .before .is-name .ensures) ∙ c .if1 .left))
+returns-2 c =
+    let from = c .before .before .from in
+    let args = c .before .before .before .before .before .before .args in
+    let fixed-bytes = c .before .before .before .fixed-bytes in
+    let is-name = c .before .is-name in
+    let if1 = c .if1 in
+    sym (name-bad _ _ _ (from .ensures ∙ ap (λ k. drop k (args .payload .now)) (fixed-bytes .ensures) ∙ sym (name-in (args .sort) (args .payload .now))) (sym (is-name .ensures) ∙ if1 .left))
 
 pub name-broken-spec : {M : Type 1} → statement M
 name-broken-spec =

@@ -34,7 +34,12 @@ enum-told : tie.Need-enum-told Inv-loop μ-loop
 enum-told c = search needs
 
 returns : tie.Need-returns Inv-loop μ-loop
-returns c = taken-none (c .before .before .before .before .before .before .before .before .args .name .now) (c .before .before .before .before .before .before .before .before .args .list .now) (c .before .before .before .before .before .before .before .before .args .count) (c .before .before .before .before .before .loop .at) (c .before .before .before .before .before .loop .left) (c .before .before .before .before .before .loop .inv .1) (here-none (c .before .before .before .before .before .before .before .before .args .list .now) _ _ (c .before .before .next-declaration .ensures) (c .enum-told .given .1))
+returns c =
+    let args = c .before .before .before .before .before .before .before .before .args in
+    let loop = c .before .before .before .before .before .loop in
+    let next-declaration = c .before .before .next-declaration in
+    let enum-told = c .enum-told in
+    taken-none (args .name .now) (args .list .now) (args .count) (loop .at) (loop .left) (loop .inv .1) (here-none (args .list .now) _ _ (next-declaration .ensures) (enum-told .given .1))
 
 enum-known-sort : tie.Need-enum-known-sort Inv-loop μ-loop
 enum-known-sort c = search needs
@@ -43,7 +48,12 @@ fixed-bytes-requires : tie.Need-fixed-bytes-requires Inv-loop μ-loop
 fixed-bytes-requires c κs = search needs
 
 payload-at-requires : tie.Need-payload-at-requires Inv-loop μ-loop
-payload-at-requires c κs = (omega (arith, here-within (c .before .before .before .before .before .before .before .before .before .before .args .list .now) _ _ (c .before .before .before .before .next-declaration .ensures) _ _ (c .before .before .sort .given .1)), c .before .before .before .before .before .before .before .before .before .before .pre)
+payload-at-requires c κs =
+    let args = c .before .before .before .before .before .before .before .before .before .before .args in
+    let next-declaration = c .before .before .before .before .next-declaration in
+    let sort = c .before .before .sort in
+    let pre = c .before .before .before .before .before .before .before .before .before .before .pre in
+    (omega (arith, here-within (args .list .now) _ _ (next-declaration .ensures) _ _ (sort .given .1)), pre)
 
 from-requires : tie.Need-from-requires Inv-loop μ-loop
 from-requires c κs = search needs
@@ -52,13 +62,36 @@ same-name-requires : tie.Need-same-name-requires Inv-loop μ-loop
 same-name-requires c κs = search needs
 
 returns-2 : tie.Need-returns-2 Inv-loop μ-loop
-returns-2 c = taken-here (c .before .before .before .before .before .before .before .before .before .before .before .before .before .before .args .name .now) (c .before .before .before .before .before .before .before .before .before .before .before .before .before .before .args .list .now) (c .before .before .before .before .before .before .before .before .before .before .before .before .before .before .args .count) (c .before .before .before .before .before .before .before .before .before .before .before .loop .at) (c .before .before .before .before .before .before .before .before .before .before .before .loop .left) (c .before .before .before .before .before .before .before .before .before .before .before .loop .inv .1) (c .before .before .before .before .before .before .before .before .before .before .loop-test .taken) _ _ (here-more (c .before .before .before .before .before .before .before .before .before .before .before .before .before .before .args .list .now) _ _ (c .before .before .before .before .before .before .before .before .next-declaration .ensures) _ _ (c .before .before .before .before .before .before .sort .given .1)) (name-tested (c .before .before .before .before .before .before .sort .given .0 .0) (take (c .before .before .before .before .before .before .sort .given .0 .1 .0) (drop (c .before .before .before .before .before .before .before .before .before .before .before .loop .at + 3) (c .before .before .before .before .before .before .before .before .before .before .before .before .before .before .args .list .now))) _ (c .before .before .before .before .fixed-bytes .ensures) _ (c .before .before .before .payload-at .ensures) _ (c .before .before .from .ensures) (c .before .before .before .before .before .before .before .before .before .before .before .before .before .before .args .name .now) _ (c .before .same-name .ensures) ∙ c .if1 .taken)
+returns-2 c =
+    let args = c .before .before .before .before .before .before .before .before .before .before .before .before .before .before .args in
+    let loop = c .before .before .before .before .before .before .before .before .before .before .before .loop in
+    let loop-test = c .before .before .before .before .before .before .before .before .before .before .loop-test in
+    let next-declaration = c .before .before .before .before .before .before .before .before .next-declaration in
+    let sort = c .before .before .before .before .before .before .sort in
+    let fixed-bytes = c .before .before .before .before .fixed-bytes in
+    let payload-at = c .before .before .before .payload-at in
+    let from = c .before .before .from in
+    let same-name = c .before .same-name in
+    let if1 = c .if1 in
+    taken-here (args .name .now) (args .list .now) (args .count) (loop .at) (loop .left) (loop .inv .1) (loop-test .taken) _ _
+    (here-more (args .list .now) _ _ (next-declaration .ensures) _ _ (sort .given .1))
+    (name-tested (sort .given .0 .0) (take (sort .given .0 .1 .0) (drop (loop .at + 3) (args .list .now))) _ (fixed-bytes .ensures) _ (payload-at .ensures) _ (from .ensures) (args .name .now) _ (same-name .ensures) ∙ if1 .taken)
 
 add-at : tie.Need-add-at Inv-loop μ-loop
-add-at c = omega (arith, here-within (c .before .before .before .before .before .before .before .before .before .before .before .before .before .before .args .list .now) _ _ (c .before .before .before .before .before .before .before .before .next-declaration .ensures) _ _ (c .before .before .before .before .before .before .sort .given .1), c .before .before .before .before .before .before .before .before .before .before .before .before .before .before .pre)
+add-at c =
+    let args = c .before .before .before .before .before .before .before .before .before .before .before .before .before .before .args in
+    let next-declaration = c .before .before .before .before .before .before .before .before .next-declaration in
+    let sort = c .before .before .before .before .before .before .sort in
+    let pre = c .before .before .before .before .before .before .before .before .before .before .before .before .before .before .pre in
+    omega (arith, here-within (args .list .now) _ _ (next-declaration .ensures) _ _ (sort .given .1), pre)
 
 add-at-2 : tie.Need-add-at-2 Inv-loop μ-loop
-add-at-2 c = omega (arith, here-within (c .before .before .before .before .before .before .before .before .before .before .before .before .before .before .args .list .now) _ _ (c .before .before .before .before .before .before .before .before .next-declaration .ensures) _ _ (c .before .before .before .before .before .before .sort .given .1), c .before .before .before .before .before .before .before .before .before .before .before .before .before .before .pre)
+add-at-2 c =
+    let args = c .before .before .before .before .before .before .before .before .before .before .before .before .before .before .args in
+    let next-declaration = c .before .before .before .before .before .before .before .before .next-declaration in
+    let sort = c .before .before .before .before .before .before .sort in
+    let pre = c .before .before .before .before .before .before .before .before .before .before .before .before .before .before .pre in
+    omega (arith, here-within (args .list .now) _ _ (next-declaration .ensures) _ _ (sort .given .1), pre)
 
 sub-left : tie.Need-sub-left Inv-loop μ-loop
 sub-left c = omega (arith, c .before .before .before .before .before .before .before .before .before .before .loop-test .taken)
@@ -67,10 +100,29 @@ loop-less : tie.Need-loop-less Inv-loop μ-loop
 loop-less c = omega (arith, c .before .before .before .before .before .before .before .before .before .before .loop-test .taken)
 
 loop-again : tie.Need-loop-again Inv-loop μ-loop
-loop-again c = (omega (arith, here-within (c .before .before .before .before .before .before .before .before .before .before .before .before .before .before .args .list .now) _ _ (c .before .before .before .before .before .before .before .before .next-declaration .ensures) _ _ (c .before .before .before .before .before .before .sort .given .1)), taken-later (c .before .before .before .before .before .before .before .before .before .before .before .before .before .before .args .name .now) (c .before .before .before .before .before .before .before .before .before .before .before .before .before .before .args .list .now) (c .before .before .before .before .before .before .before .before .before .before .before .before .before .before .args .count) (c .before .before .before .before .before .before .before .before .before .before .before .loop .at) (c .before .before .before .before .before .before .before .before .before .before .before .loop .left) (c .before .before .before .before .before .before .before .before .before .before .before .loop .inv .1) (c .before .before .before .before .before .before .before .before .before .before .loop-test .taken) _ _ (here-more (c .before .before .before .before .before .before .before .before .before .before .before .before .before .before .args .list .now) _ _ (c .before .before .before .before .before .before .before .before .next-declaration .ensures) _ _ (c .before .before .before .before .before .before .sort .given .1)) (name-tested (c .before .before .before .before .before .before .sort .given .0 .0) (take (c .before .before .before .before .before .before .sort .given .0 .1 .0) (drop (c .before .before .before .before .before .before .before .before .before .before .before .loop .at + 3) (c .before .before .before .before .before .before .before .before .before .before .before .before .before .before .args .list .now))) _ (c .before .before .before .before .fixed-bytes .ensures) _ (c .before .before .before .payload-at .ensures) _ (c .before .before .from .ensures) (c .before .before .before .before .before .before .before .before .before .before .before .before .before .before .args .name .now) _ (c .before .same-name .ensures) ∙ c .if1 .left))
+loop-again c =
+    let args = c .before .before .before .before .before .before .before .before .before .before .before .before .before .before .args in
+    let next-declaration = c .before .before .before .before .before .before .before .before .next-declaration in
+    let sort = c .before .before .before .before .before .before .sort in
+    let loop = c .before .before .before .before .before .before .before .before .before .before .before .loop in
+    let loop-test = c .before .before .before .before .before .before .before .before .before .before .loop-test in
+    let fixed-bytes = c .before .before .before .before .fixed-bytes in
+    let payload-at = c .before .before .before .payload-at in
+    let from = c .before .before .from in
+    let same-name = c .before .same-name in
+    let if1 = c .if1 in (
+      omega (arith, here-within (args .list .now) _ _ (next-declaration .ensures) _ _ (sort .given .1)),
+      taken-later (args .name .now) (args .list .now) (args .count) (loop .at) (loop .left) (loop .inv .1) (loop-test .taken) _ _
+          (here-more (args .list .now) _ _ (next-declaration .ensures) _ _ (sort .given .1))
+          (name-tested (sort .given .0 .0) (take (sort .given .0 .1 .0) (drop (loop .at + 3) (args .list .now))) _ (fixed-bytes .ensures) _ (payload-at .ensures) _ (from .ensures) (args .name .now) _ (same-name .ensures) ∙ if1 .left),
+    )
 
 returns-3 : tie.Need-returns-3 Inv-loop μ-loop
-returns-3 c = taken-done (c .before .before .before .before .args .name .now) (c .before .before .before .before .args .list .now) (c .before .before .before .before .args .count) (c .before .loop .at) (c .before .loop .left) (c .before .loop .inv .1) (omega (arith, c .loop-test .left))
+returns-3 c =
+    let args = c .before .before .before .before .args in
+    let loop = c .before .loop in
+    let loop-test = c .loop-test in
+    taken-done (args .name .now) (args .list .now) (args .count) (loop .at) (loop .left) (loop .inv .1) (omega (arith, loop-test .left))
 
 pub name-taken-spec : {M : Type 1} → statement M
 name-taken-spec =

@@ -25,7 +25,9 @@ returns c = rw (← c .before .before .before .before .before .before .open-fiel
 
 returns-2 : tie.Need-returns-2
 unfolding nextIn
-returns-2 c = rw (← c .before .before .before .before .open-field .ensures, c .before .before .sort .given .1) (sym (other-sort (c .before .before .sort .given .0 .0) _ _ (not-declaration (c .before .before .sort .given .0 .0) (c .match2 .keys2))))
+returns-2 c =
+    rw (← c .before .before .before .before .open-field .ensures, c .before .before .sort .given .1)
+    (sym (other-sort (c .before .before .sort .given .0 .0) _ _ (not-declaration (c .before .before .sort .given .0 .0) (c .match2 .keys2))))
 
 returns-3 : tie.Need-returns-3
 unfolding nextIn

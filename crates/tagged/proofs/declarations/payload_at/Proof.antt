@@ -25,7 +25,7 @@ part-result-end : tie.Need-part-result-end
 part-result-end c = search needs
 
 returns : tie.Need-returns
-returns c = 
+returns c =
     let a = c .before .args in
     let size : a .at + 3 + a .size - (a .at + 3) ≡ a .size = omega arith in
     rw size

@@ -38,19 +38,37 @@ fits-requires : tie.Need-fits-requires
 fits-requires c κs = search needs
 
 returns : tie.Need-returns
-returns c = 
-    let refused = sym (c .before .before .new .ensures) ∙ c .enum-told .given .1 in
-    sym (broken-width (c .before .before .before .before .before .args .sort) (c .before .before .before .before .before .args .payload .now) _ (c .before .before .before .byte-at .ensures) (second-taken (isWidth (c .before .before .before .byte-at .result)) _ _ refused (λ e. let z : _≡_ {A = ℕ} 0 1 = cc in omega arith)))
+returns c =
+    let new = c .before .before .new in
+    let enum-told = c .enum-told in
+    let args = c .before .before .before .before .before .args in
+    let byte-at = c .before .before .before .byte-at in
+    let refused = sym (new .ensures) ∙ enum-told .given .1 in
+    sym (broken-width (args .sort) (args .payload .now) _ (byte-at .ensures) (second-taken (isWidth (byte-at .result)) _ _ refused (λ e. let z : _≡_ {A = ℕ} 0 1 = cc in omega arith)))
 
 returns-2 : tie.Need-returns-2
-returns-2 c = 
-    let good = sym (c .before .before .before .before .new .ensures) ∙ c .before .before .enum-told2 .given .1 in
-    sym (fine-input (c .before .before .before .before .before .before .before .args .sort) (c .before .before .before .before .before .before .before .args .payload .now) _ (c .before .before .before .before .before .byte-at .ensures) (first-taken (isWidth (c .before .before .before .before .before .byte-at .result)) _ _ good (λ e. let z : _≡_ {A = ℕ} 0 1 = cc in omega arith)) (c .enum-told3 .given .1))
+returns-2 c =
+    let new = c .before .before .before .before .new in
+    let enum-told2 = c .before .before .enum-told2 in
+    let args = c .before .before .before .before .before .before .before .args in
+    let byte-at = c .before .before .before .before .before .byte-at in
+    let enum-told3 = c .enum-told3 in
+    let good = sym (new .ensures) ∙ enum-told2 .given .1 in
+    sym (fine-input (args .sort) (args .payload .now) _ (byte-at .ensures) (first-taken (isWidth (byte-at .result)) _ _ good (λ e. let z : _≡_ {A = ℕ} 0 1 = cc in omega arith)) (enum-told3 .given .1))
 
 returns-3 : tie.Need-returns-3
-returns-3 c = 
-    let good = sym (c .before .before .before .before .before .before .before .new .ensures) ∙ c .before .before .before .before .before .enum-told2 .given .1 in
-    sym (fine-register (c .before .before .before .before .before .before .before .before .before .before .args .sort) (c .before .before .before .before .before .before .before .before .before .before .args .payload .now) _ (c .before .before .before .before .before .before .before .before .byte-at .ensures) (first-taken (isWidth (c .before .before .before .before .before .before .before .before .byte-at .result)) _ _ good (λ e. let z : _≡_ {A = ℕ} 0 1 = cc in omega arith)) (c .before .before .before .enum-told4 .given .1) _ (c .before .before .from .ensures) _ (c .before .four-of .ensures) _ (c .fits2 .ensures))
+returns-3 c =
+    let new = c .before .before .before .before .before .before .before .new in
+    let enum-told2 = c .before .before .before .before .before .enum-told2 in
+    let args = c .before .before .before .before .before .before .before .before .before .before .args in
+    let byte-at = c .before .before .before .before .before .before .before .before .byte-at in
+    let enum-told4 = c .before .before .before .enum-told4 in
+    let from = c .before .before .from in
+    let four-of = c .before .four-of in
+    let fits2 = c .fits2 in
+    let good = sym (new .ensures) ∙ enum-told2 .given .1 in
+    sym
+    (fine-register (args .sort) (args .payload .now) _ (byte-at .ensures) (first-taken (isWidth (byte-at .result)) _ _ good (λ e. let z : _≡_ {A = ℕ} 0 1 = cc in omega arith)) (enum-told4 .given .1) _ (from .ensures) _ (four-of .ensures) _ (fits2 .ensures))
 
 pub value-broken-spec : {M : Type 1} → statement M
 value-broken-spec =

@@ -36,13 +36,23 @@ enum-told : tie.Need-enum-told Inv-loop μ-loop
 enum-told c = search needs
 
 returns : tie.Need-returns Inv-loop μ-loop
-returns c = extend-done (c .before .before .before .before .loop .table) _ (here-none (c .before .before .before .before .before .before .args .list .now) _ _ (c .before .before .next-declaration .ensures) (c .enum-told .given .1)) (c .before .before .before .before .loop .inv .2)
+returns c =
+    let loop = c .before .before .before .before .loop in
+    let args = c .before .before .before .before .before .before .args in
+    let next-declaration = c .before .before .next-declaration in
+    let enum-told = c .enum-told in
+    extend-done (loop .table) _ (here-none (args .list .now) _ _ (next-declaration .ensures) (enum-told .given .1)) (loop .inv .2)
 
 enum-known-sort : tie.Need-enum-known-sort Inv-loop μ-loop
 enum-known-sort c = search needs
 
 payload-at-requires : tie.Need-payload-at-requires Inv-loop μ-loop
-payload-at-requires c κs = (omega (arith, here-within (c .before .before .before .before .before .before .before .args .list .now) _ _ (c .before .before .before .next-declaration .ensures) _ _ (c .before .sort .given .1)), c .before .before .before .before .before .before .before .pre)
+payload-at-requires c κs =
+    let args = c .before .before .before .before .before .before .before .args in
+    let next-declaration = c .before .before .before .next-declaration in
+    let sort = c .before .sort in
+    let pre = c .before .before .before .before .before .before .before .pre in
+    (omega (arith, here-within (args .list .now) _ _ (next-declaration .ensures) _ _ (sort .given .1)), pre)
 
 byte-at-requires : tie.Need-byte-at-requires Inv-loop μ-loop
 byte-at-requires c κs = search needs
@@ -51,19 +61,53 @@ register-mark-requires : tie.Need-register-mark-requires Inv-loop μ-loop
 register-mark-requires c κs = search needs
 
 with-variable-requires : tie.Need-with-variable-requires Inv-loop μ-loop
-with-variable-requires c κs = omega (arith, here-within (c .before .before .before .before .before .before .before .before .before .before .args .list .now) _ _ (c .before .before .before .before .before .before .next-declaration .ensures) _ _ (c .before .before .before .before .sort .given .1), c .before .before .before .before .before .before .before .before .loop .inv .1, c .before .before .before .before .before .before .before .before .before .before .pre)
+with-variable-requires c κs =
+    let args = c .before .before .before .before .before .before .before .before .before .before .args in
+    let next-declaration = c .before .before .before .before .before .before .next-declaration in
+    let sort = c .before .before .before .before .sort in
+    let loop = c .before .before .before .before .before .before .before .before .loop in
+    let pre = c .before .before .before .before .before .before .before .before .before .before .pre in
+    omega (arith, here-within (args .list .now) _ _ (next-declaration .ensures) _ _ (sort .given .1), loop .inv .1, pre)
 
 add-at : tie.Need-add-at Inv-loop μ-loop
-add-at c = omega (arith, here-within (c .before .before .before .before .before .before .before .before .before .before .before .args .list .now) _ _ (c .before .before .before .before .before .before .before .next-declaration .ensures) _ _ (c .before .before .before .before .before .sort .given .1), c .before .before .before .before .before .before .before .before .before .before .before .pre)
+add-at c =
+    let args = c .before .before .before .before .before .before .before .before .before .before .before .args in
+    let next-declaration = c .before .before .before .before .before .before .before .next-declaration in
+    let sort = c .before .before .before .before .before .sort in
+    let pre = c .before .before .before .before .before .before .before .before .before .before .before .pre in
+    omega (arith, here-within (args .list .now) _ _ (next-declaration .ensures) _ _ (sort .given .1), pre)
 
 add-at-2 : tie.Need-add-at-2 Inv-loop μ-loop
-add-at-2 c = omega (arith, here-within (c .before .before .before .before .before .before .before .before .before .before .before .args .list .now) _ _ (c .before .before .before .before .before .before .before .next-declaration .ensures) _ _ (c .before .before .before .before .before .sort .given .1), c .before .before .before .before .before .before .before .before .before .before .before .pre)
+add-at-2 c =
+    let args = c .before .before .before .before .before .before .before .before .before .before .before .args in
+    let next-declaration = c .before .before .before .before .before .before .before .next-declaration in
+    let sort = c .before .before .before .before .before .sort in
+    let pre = c .before .before .before .before .before .before .before .before .before .before .before .pre in
+    omega (arith, here-within (args .list .now) _ _ (next-declaration .ensures) _ _ (sort .given .1), pre)
 
 loop-less : tie.Need-loop-less Inv-loop μ-loop
-loop-less c = omega (arith, here-within (c .before .before .before .before .before .before .before .before .before .before .before .args .list .now) _ _ (c .before .before .before .before .before .before .before .next-declaration .ensures) _ _ (c .before .before .before .before .before .sort .given .1))
+loop-less c =
+    let args = c .before .before .before .before .before .before .before .before .before .before .before .args in
+    let next-declaration = c .before .before .before .before .before .before .before .next-declaration in
+    let sort = c .before .before .before .before .before .sort in
+    omega (arith, here-within (args .list .now) _ _ (next-declaration .ensures) _ _ (sort .given .1))
 
 loop-again : tie.Need-loop-again Inv-loop μ-loop
-loop-again c = (omega (arith, here-within (c .before .before .before .before .before .before .before .before .before .before .before .args .list .now) _ _ (c .before .before .before .before .before .before .before .next-declaration .ensures) _ _ (c .before .before .before .before .before .sort .given .1)), omega (arith, with-count _ _ _ _ (c .with-variable .ensures), c .before .before .before .before .before .before .before .before .before .loop .inv .1), extend-more (c .before .before .before .before .before .before .before .before .before .loop .table) _ _ _ (here-more (c .before .before .before .before .before .before .before .before .before .before .before .args .list .now) _ _ (c .before .before .before .before .before .before .before .next-declaration .ensures) _ _ (c .before .before .before .before .before .sort .given .1)) (c .before .before .before .before .before .before .before .before .before .loop .inv .2) _ _ (c .before .before .byte-at .ensures ∙ ap (λ l. getD l 0 0) (c .before .before .before .payload-at .ensures) ∙ sym (width-in (c .before .before .before .before .before .sort .given .0 .0) _)) (c .before .register-mark .ensures ∙ ap registerMark (sym (sort-in (c .before .before .before .before .before .sort .given .0 .0) _))) _ (c .with-variable .ensures))
+loop-again c =
+    let args = c .before .before .before .before .before .before .before .before .before .before .before .args in
+    let next-declaration = c .before .before .before .before .before .before .before .next-declaration in
+    let sort = c .before .before .before .before .before .sort in
+    let with-variable = c .with-variable in
+    let loop = c .before .before .before .before .before .before .before .before .before .loop in
+    let byte-at = c .before .before .byte-at in
+    let payload-at = c .before .before .before .payload-at in
+    let register-mark = c .before .register-mark in (
+      omega (arith, here-within (args .list .now) _ _ (next-declaration .ensures) _ _ (sort .given .1)),
+      omega (arith, with-count _ _ _ _ (with-variable .ensures), loop .inv .1),
+      extend-more (loop .table) _ _ _ (here-more (args .list .now) _ _ (next-declaration .ensures) _ _ (sort .given .1)) (loop .inv .2) _ _
+          (byte-at .ensures ∙ ap (λ l. getD l 0 0) (payload-at .ensures) ∙ sym (width-in (sort .given .0 .0) _))
+          (register-mark .ensures ∙ ap registerMark (sym (sort-in (sort .given .0 .0) _))) _ (with-variable .ensures),
+    )
 
 pub variable-table-spec : {M : Type 1} → statement M
 variable-table-spec =

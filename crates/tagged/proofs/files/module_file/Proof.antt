@@ -23,13 +23,13 @@ enum-told-2 c = search needs
 
 returns : tie.Need-returns
 unfolding fileAnswer
-returns c = 
+returns c =
     let good = sym (c .before .before .before .new .ensures) ∙ c .before .enum-told .given .1 in
     rw (first-taken (lengthFits longestModule (c .before .before .before .before .before .args .file .now)) _ _ good (λ e. let z : _≡_ {A = ℕ} 0 1 = cc in omega arith)) (c .outer-length .ensures)
 
 returns-2 : tie.Need-returns-2
 unfolding fileAnswer
-returns-2 c = 
+returns-2 c =
     let refused = sym (c .before .before .new .ensures) ∙ c .enum-told2 .given .1 in
     rw (second-taken (lengthFits longestModule (c .before .before .before .before .args .file .now)) _ _ refused (λ e. let z : _≡_ {A = ℕ} 0 1 = cc in omega arith))
 

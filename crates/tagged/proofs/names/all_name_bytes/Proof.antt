@@ -31,10 +31,13 @@ loop-less : tie.Need-loop-less Inv-loop μ-loop
 loop-less c = search needs
 
 loop-again : tie.Need-loop-again Inv-loop μ-loop
-loop-again c = (omega arith, bytes-turn (c .before .before .before .before .before .before .args .name .now) _ (c .before .before .before .before .loop .inv .1) (c .before .before .before .loop-test .taken) (sym (c .before .is-name-byte .ensures) ∙ c .if1 .taken))
+loop-again c =
+    (omega arith, bytes-turn (c .before .before .before .before .before .before .args .name .now) _ (c .before .before .before .before .loop .inv .1) (c .before .before .before .loop-test .taken) (sym (c .before .is-name-byte .ensures) ∙ c .if1 .taken))
 
 returns : tie.Need-returns Inv-loop μ-loop
-returns c = bytes-broken (c .before .before .before .before .before .before .args .name .now) _ (c .before .before .before .before .loop .inv .1) (c .before .before .before .loop-test .taken) (sym (c .before .is-name-byte .ensures) ∙ c .if1 .left)
+returns c =
+    bytes-broken (c .before .before .before .before .before .before .args .name .now) _ (c .before .before .before .before .loop .inv .1)
+    (c .before .before .before .loop-test .taken) (sym (c .before .is-name-byte .ensures) ∙ c .if1 .left)
 
 returns-2 : tie.Need-returns-2 Inv-loop μ-loop
 returns-2 c = bytes-done (c .before .before .before .args .name .now) _ (c .before .loop .inv .1) (c .loop-test .left)

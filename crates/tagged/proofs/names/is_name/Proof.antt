@@ -29,21 +29,37 @@ enum-told-2 c = search needs
 
 returns : tie.Need-returns
 unfolding isName
-returns c = 
-    let good = sym (c .before .before .before .before .before .new .ensures) ∙ c .before .before .before .enum-told .given .1 in
-    rw (first-taken (isNameLength (length (c .before .before .before .before .before .before .before .args .name .now))) _ _ good (λ e. let z : _≡_ {A = ℕ} 0 1 = cc in omega arith), ← c .before .before .byte-at .ensures, ← c .before .is-digit .ensures, c .if1 .taken)
+returns c =
+    let new = c .before .before .before .before .before .new in
+    let enum-told = c .before .before .before .enum-told in
+    let args = c .before .before .before .before .before .before .before .args in
+    let byte-at = c .before .before .byte-at in
+    let is-digit = c .before .is-digit in
+    let if1 = c .if1 in
+    let good = sym (new .ensures) ∙ enum-told .given .1 in
+    rw (first-taken (isNameLength (length (args .name .now))) _ _ good (λ e. let z : _≡_ {A = ℕ} 0 1 = cc in omega arith), ← byte-at .ensures, ← is-digit .ensures, if1 .taken)
 
 returns-2 : tie.Need-returns-2
 unfolding isName
-returns-2 c = 
-    let good = sym (c .before .before .before .before .before .before .new .ensures) ∙ c .before .before .before .before .enum-told .given .1 in
-    rw (first-taken (isNameLength (length (c .before .before .before .before .before .before .before .before .args .name .now))) _ _ good (λ e. let z : _≡_ {A = ℕ} 0 1 = cc in omega arith), ← c .before .before .before .byte-at .ensures, ← c .before .before .is-digit .ensures, c .before .if1 .left) (c .all-name-bytes .ensures)
+returns-2 c =
+    let new = c .before .before .before .before .before .before .new in
+    let enum-told = c .before .before .before .before .enum-told in
+    let args = c .before .before .before .before .before .before .before .before .args in
+    let byte-at = c .before .before .before .byte-at in
+    let is-digit = c .before .before .is-digit in
+    let if1 = c .before .if1 in
+    let all-name-bytes = c .all-name-bytes in
+    let good = sym (new .ensures) ∙ enum-told .given .1 in
+    rw (first-taken (isNameLength (length (args .name .now))) _ _ good (λ e. let z : _≡_ {A = ℕ} 0 1 = cc in omega arith), ← byte-at .ensures, ← is-digit .ensures, if1 .left) (all-name-bytes .ensures)
 
 returns-3 : tie.Need-returns-3
 unfolding isName
-returns-3 c = 
-    let refused = sym (c .before .before .new .ensures) ∙ c .enum-told2 .given .1 in
-    rw (second-taken (isNameLength (length (c .before .before .before .before .args .name .now))) _ _ refused (λ e. let z : _≡_ {A = ℕ} 0 1 = cc in omega arith))
+returns-3 c =
+    let new = c .before .before .new in
+    let enum-told2 = c .enum-told2 in
+    let args = c .before .before .before .before .args in
+    let refused = sym (new .ensures) ∙ enum-told2 .given .1 in
+    rw (second-taken (isNameLength (length (args .name .now))) _ _ refused (λ e. let z : _≡_ {A = ℕ} 0 1 = cc in omega arith))
 
 pub is-name-spec : {M : Type 1} → statement M
 is-name-spec =

@@ -16,7 +16,10 @@ abbrev μ-loop : tie.MeasureT-loop
 μ-loop first second at₀ at = length first - at
 
 returns : tie.Need-returns Inv-loop μ-loop
-returns c = sym (same-lengths (c .before .args .first .now) (c .before .args .second .now) (c .if1 .taken))
+returns c =
+    let args = c .before .args in
+    let if1 = c .if1 in
+    sym (same-lengths (args .first .now) (args .second .now) (if1 .taken))
 
 loop-holds : tie.Need-loop-holds Inv-loop μ-loop
 loop-holds c = (search needs, refl)
@@ -28,7 +31,13 @@ shared-slice-read-if2-2 : tie.Need-shared-slice-read-if2-2 Inv-loop μ-loop
 shared-slice-read-if2-2 c = search needs
 
 returns-2 : tie.Need-returns-2 Inv-loop μ-loop
-returns-2 c = same-broken (c .before .before .before .before .before .before .args .first .now) (c .before .before .before .before .before .before .args .second .now) _ (c .before .before .before .before .before .if1 .left) (c .before .before .before .before .loop .inv .1) (c .before .before .before .loop-test .taken) (c .if2 .taken)
+returns-2 c =
+    let args = c .before .before .before .before .before .before .args in
+    let if1 = c .before .before .before .before .before .if1 in
+    let loop = c .before .before .before .before .loop in
+    let loop-test = c .before .before .before .loop-test in
+    let if2 = c .if2 in
+    same-broken (args .first .now) (args .second .now) _ (if1 .left) (loop .inv .1) (loop-test .taken) (if2 .taken)
 
 add-at : tie.Need-add-at Inv-loop μ-loop
 add-at c = search needs
@@ -37,10 +46,23 @@ loop-less : tie.Need-loop-less Inv-loop μ-loop
 loop-less c = search needs
 
 loop-again : tie.Need-loop-again Inv-loop μ-loop
-loop-again c = (omega arith, same-turn (c .before .before .before .before .before .before .args .first .now) (c .before .before .before .before .before .before .args .second .now) _ (c .before .before .before .before .before .if1 .left) (c .before .before .before .before .loop .inv .1) (c .before .before .before .loop-test .taken) (c .if2 .left))
+loop-again c =
+    let args = c .before .before .before .before .before .before .args in
+    let if1 = c .before .before .before .before .before .if1 in
+    let loop = c .before .before .before .before .loop in
+    let loop-test = c .before .before .before .loop-test in
+    let if2 = c .if2 in (
+      omega arith,
+      same-turn (args .first .now) (args .second .now) _ (if1 .left) (loop .inv .1) (loop-test .taken) (if2 .left),
+    )
 
 returns-3 : tie.Need-returns-3 Inv-loop μ-loop
-returns-3 c = same-done (c .before .before .before .args .first .now) (c .before .before .before .args .second .now) _ (c .before .before .if1 .left) (c .before .loop .inv .1) (c .loop-test .left)
+returns-3 c =
+    let args = c .before .before .before .args in
+    let if1 = c .before .before .if1 in
+    let loop = c .before .loop in
+    let loop-test = c .loop-test in
+    same-done (args .first .now) (args .second .now) _ (if1 .left) (loop .inv .1) (loop-test .left)
 
 pub same-name-spec : {M : Type 1} → statement M
 same-name-spec =

@@ -35,13 +35,15 @@ loop-again : tie.Need-loop-again Inv-loop μ-loop
 loop-again c =
     let a = c .before .before .before .before .before .before .before .before .before .before .before .args in
     let l = c .before .before .before .before .before .before .loop in
-    fits-turn (a .widths .now) (a .row .now) _ (l .at) (l .inv) _ _ (c .before .before .before .from .ensures) (c .before .before .four-of .ensures) (c .before .before .before .before .before .loop-test .taken) _ (c .before .fits2 .ensures) (c .if3 .taken)
+    fits-turn (a .widths .now) (a .row .now) _ (l .at) (l .inv) _ _ (c .before .before .before .from .ensures) (c .before .before .four-of .ensures)
+    (c .before .before .before .before .before .loop-test .taken) _ (c .before .fits2 .ensures) (c .if3 .taken)
 
 returns-3 : tie.Need-returns-3 Inv-loop μ-loop
 returns-3 c =
     let a = c .before .before .before .before .before .before .before .before .before .before .before .args in
     let l = c .before .before .before .before .before .before .loop in
-    fits-stop (a .widths .now) (a .row .now) _ (l .at) (l .inv) _ _ (c .before .before .before .from .ensures) (c .before .before .four-of .ensures) (c .before .before .before .before .before .loop-test .taken) _ (c .before .fits2 .ensures) (c .if3 .left)
+    fits-stop (a .widths .now) (a .row .now) _ (l .at) (l .inv) _ _ (c .before .before .before .from .ensures) (c .before .before .four-of .ensures)
+    (c .before .before .before .before .before .loop-test .taken) _ (c .before .fits2 .ensures) (c .if3 .left)
 
 returns-4 : tie.Need-returns-4 Inv-loop μ-loop
 returns-4 c =

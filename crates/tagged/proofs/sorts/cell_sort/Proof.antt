@@ -57,7 +57,8 @@ returns-11 c =
     let not-32 = not-33 .0 in
     let not-31 = not-32 .0 in
     let not-30 = not-31 .0 in
-    rw (ne-eqb _ 0x30 (not-30 .1), ne-eqb _ 0x31 (not-31 .1), ne-eqb _ 0x32 (not-32 .1), ne-eqb _ 0x33 (not-33 .1), ne-eqb _ 0x34 (not-34 .1), ne-eqb _ 0x35 (not-35 .1), ne-eqb _ 0x36 (not-36 .1), ne-eqb _ 0x37 (not-37 .1), ne-eqb _ 0x38 (not-38 .1), ne-eqb _ 0x39 (not-39 .1))
+    rw
+    (ne-eqb _ 0x30 (not-30 .1), ne-eqb _ 0x31 (not-31 .1), ne-eqb _ 0x32 (not-32 .1), ne-eqb _ 0x33 (not-33 .1), ne-eqb _ 0x34 (not-34 .1), ne-eqb _ 0x35 (not-35 .1), ne-eqb _ 0x36 (not-36 .1), ne-eqb _ 0x37 (not-37 .1), ne-eqb _ 0x38 (not-38 .1), ne-eqb _ 0x39 (not-39 .1))
 
 pub cell-sort-spec : {M : Type 1} → statement M
 cell-sort-spec = tie.close (tie.spec returns returns-2 returns-3 returns-4 returns-5 returns-6 returns-7 returns-8 returns-9 returns-10 returns-11)

@@ -57,7 +57,8 @@ returns-11 c =
     let not-22 = not-23 .0 in
     let not-21 = not-22 .0 in
     let not-20 = not-21 .0 in
-    rw (ne-eqb _ 0x20 (not-20 .1), ne-eqb _ 0x21 (not-21 .1), ne-eqb _ 0x22 (not-22 .1), ne-eqb _ 0x23 (not-23 .1), ne-eqb _ 0x24 (not-24 .1), ne-eqb _ 0x25 (not-25 .1), ne-eqb _ 0x26 (not-26 .1), ne-eqb _ 0x27 (not-27 .1), ne-eqb _ 0x28 (not-28 .1), ne-eqb _ 0x29 (not-29 .1))
+    rw
+    (ne-eqb _ 0x20 (not-20 .1), ne-eqb _ 0x21 (not-21 .1), ne-eqb _ 0x22 (not-22 .1), ne-eqb _ 0x23 (not-23 .1), ne-eqb _ 0x24 (not-24 .1), ne-eqb _ 0x25 (not-25 .1), ne-eqb _ 0x26 (not-26 .1), ne-eqb _ 0x27 (not-27 .1), ne-eqb _ 0x28 (not-28 .1), ne-eqb _ 0x29 (not-29 .1))
 
 pub expression-sort-spec : {M : Type 1} → statement M
 expression-sort-spec = tie.close (tie.spec returns returns-2 returns-3 returns-4 returns-5 returns-6 returns-7 returns-8 returns-9 returns-10 returns-11)
