@@ -13,7 +13,8 @@ use Rattle.tagged.specs.Fields.{openOf, fieldBytes, allBytesOf, fieldBy,
 use Rattle.tagged.specs.Answers.{numberOf}
 use Rattle.tagged.specs.Files.{fileAnswer, outerAnswer}
 use Rattle.tagged.specs.Names.{isName, isNameByte, allNameBytes, sameName}
-use Rattle.tagged.specs.Declarations.{Declaration, declarationBytes, declarationBody, declarationsStep, declarationRead, declarationsAt, declarationsIn, valueBroken, nameTaken, nameBroken, countBroken, declarationBreaks, firstBroken}
+use Rattle.tagged.specs.Refusals.{firstBroken}
+use Rattle.tagged.specs.Declarations.{Declaration, declarationBytes, declarationBody, declarationsStep, declarationRead, declarationsAt, declarationsIn, valueBroken, nameTaken, nameBroken, countBroken, declarationBreaks}
 use Rattle.tagged.specs.Rows.{rowNumbers, allFit, rowsFit, rowAnswer}
 use Rattle.tagged.specs.declared.answers.Rule.{Rule}
 use Rattle.tagged.specs.declared.answers.Rule.the-variants as Rule

@@ -11,7 +11,8 @@ use lib.Seq.{drop-drop, take-add, set-out, drop-nil, take-nil}
 use Rattle.tagged.specs.Limits.{mostVariables}
 use Rattle.tagged.specs.Fields.{Placed, unplaced}
 use Rattle.tagged.specs.Names.{sameName}
-use Rattle.tagged.specs.Declarations.{Declaration, widthOf, nameOf, sortOfDeclaration, registerMark, fixedBytes, declarationIn, nextIn, declarationsAt, declarationsIn, nameTaken, firstBroken, tableOf, variableTable, withVariable}
+use Rattle.tagged.specs.Refusals.{firstBroken}
+use Rattle.tagged.specs.Declarations.{Declaration, widthOf, nameOf, sortOfDeclaration, registerMark, fixedBytes, declarationIn, nextIn, declarationsAt, declarationsIn, nameTaken, tableOf, variableTable, withVariable}
 use Rattle.tagged.specs.declared.sorts.DeclarationSort.{DeclarationSort}
 use Rattle.tagged.specs.declared.declarations.Next.{Next}
 use Rattle.tagged.specs.declared.declarations.Next.the-variants as Next

@@ -5,12 +5,12 @@ use Prim.Native.Nat.{ℕ, zero, suc, _+_}
 use lib.Dec.{leb}
 use lib.ListN.{length, getD, drop, set}
 use Rattle.words.specs.Widths.{isWidth, fitsWidth}
-use Rattle.tagged.specs.Choice.{choose}
 use Rattle.tagged.specs.Limits.{mostVariables}
 use Rattle.tagged.specs.Bytes.{fourBytes, fourOf}
 use Rattle.tagged.specs.Sorts.{onDeclaration, isDeclaration, tagOf}
-use Rattle.tagged.specs.Fields.{Judge, Stepper, Body, fieldBy, fixedThen, anyBytes, many, fieldBytes, openOf, onField, Placed, readPlaced, unplaced, placedBy}
+use Rattle.tagged.specs.Fields.{Judge, Stepper, Body, fieldBy, fixedThen, anyBytes, many, fieldBytes, openOf, onField, passedBytes, Placed, readPlaced, unplaced, placedBy}
 use Rattle.tagged.specs.Names.{isName, sameName}
+use Rattle.tagged.specs.Refusals.{firstBroken}
 use Rattle.tagged.specs.declared.sorts.DeclarationSort.{DeclarationSort}
 use Rattle.tagged.specs.declared.sorts.DeclarationSort.the-variants as DeclarationSort
 use Rattle.tagged.specs.declared.sorts.Sort.{Sort}
@@ -97,6 +97,10 @@ declarationsAt base l = readPlaced isDeclaration declarationRead base l
 abbrev pub declarationsIn : List ℕ → List Declaration
 declarationsIn l = unplaced (declarationsAt 0 l)
 
+-- what follows them
+abbrev pub afterDeclarations : List ℕ → List ℕ
+afterDeclarations l = drop (passedBytes (declarationsStep 0 0 l)) l
+
 -- refusals 3 to 5 on them
 
 -- 3: width 0 or over 32; a value not below 2 to its width
@@ -134,17 +138,19 @@ declarationBreaks Rule.Cells earlier d = false
 declarationBreaks Rule.Buffer earlier d = false
 declarationBreaks Rule.Row earlier d = false
 
--- the place of the first element that breaks a rule, given those before it
-unfoldable pub firstBroken : {A : Type 0} → (List A → A → Bool) → List A → List (Placed A) → Found
-firstBroken breaks earlier [] = Found.Nowhere
-firstBroken breaks earlier (x ∷ l) =
-    choose (breaks earlier (x .what)) (λ _. Found.At (x .place)) (λ _. firstBroken breaks (earlier ++ (x .what ∷ [])) l)
-
 -- the place of the first declaration that breaks a rule: of a list whose bytes start at `base`
 abbrev pub declarationBroken : Rule → ℕ → List Declaration → Found
 declarationBroken rule base ds = firstBroken (declarationBreaks rule) [] (placedBy declarationBytes base ds)
 
 -- what they declare
+
+-- the width of variable v; 0 where there is none
+abbrev pub variableWidth : List Declaration → ℕ → ℕ
+variableWidth ds v = getD (map widthOf ds) v 0
+
+-- is variable v a register?
+abbrev pub registerAt : List Declaration → ℕ → Bool
+registerAt ds v = getD (map isRegister ds) v false
 
 -- 1 for a register, 0 for an input
 abbrev pub registerMark : DeclarationSort → ℕ

@@ -113,6 +113,11 @@ manyFrom wanted one (suc n) base owner (x ∷ l) = further 1 (manyFrom wanted on
 abbrev pub many : (Sort → Bool) → Stepper → Stepper
 many wanted one = manyFrom wanted one 0
 
+-- how many bytes were passed
+abbrev pub passedBytes : Step → ℕ
+passedBytes (Step.Past m) = m
+passedBytes (Step.Refused place) = 0
+
 -- every sort
 abbrev pub anySort : Sort → Bool
 anySort s = true

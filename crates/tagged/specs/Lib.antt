@@ -6,7 +6,9 @@ pub mod Answers
 pub mod Sorts
 pub mod Bytes
 pub mod Fields
+pub mod Refusals
 pub mod Files
 pub mod Names
 pub mod Declarations
 pub mod Rows
+pub mod Cycles

@@ -146,3 +146,61 @@ onDeclaration Sort.Unknown f other = other
 -- the field is a declaration
 abbrev pub isDeclaration : Sort → Bool
 isDeclaration s = onDeclaration s (λ d. true) false
+
+-- f of the statement's sort, or the other value for a field of another sort
+abbrev pub onStatement {ℓ} : {A : Type ℓ} → Sort → (StatementSort → A) → A → A
+onStatement (Sort.Statement s) f other = f s
+onStatement Sort.Module f other = other
+onStatement (Sort.Declaration d) f other = other
+onStatement Sort.Process f other = other
+onStatement Sort.Item f other = other
+onStatement Sort.Block f other = other
+onStatement (Sort.Expression e) f other = other
+onStatement (Sort.Cell c) f other = other
+onStatement Sort.Drive f other = other
+onStatement Sort.Netlist f other = other
+onStatement Sort.Unknown f other = other
+
+-- the field is a statement
+abbrev pub isStatement : Sort → Bool
+isStatement s = onStatement s (λ x. true) false
+
+-- f of the expression's sort, or the other value for a field of another sort
+abbrev pub onExpression {ℓ} : {A : Type ℓ} → Sort → (ExpressionSort → A) → A → A
+onExpression (Sort.Expression e) f other = f e
+onExpression Sort.Module f other = other
+onExpression (Sort.Declaration d) f other = other
+onExpression Sort.Process f other = other
+onExpression (Sort.Statement s) f other = other
+onExpression Sort.Item f other = other
+onExpression Sort.Block f other = other
+onExpression (Sort.Cell c) f other = other
+onExpression Sort.Drive f other = other
+onExpression Sort.Netlist f other = other
+onExpression Sort.Unknown f other = other
+
+-- the field is an expression
+abbrev pub isExpression : Sort → Bool
+isExpression s = onExpression s (λ x. true) false
+
+-- f of the cell's sort, or the other value for a field of another sort
+abbrev pub onCell {ℓ} : {A : Type ℓ} → Sort → (CellSort → A) → A → A
+onCell (Sort.Cell c) f other = f c
+onCell Sort.Module f other = other
+onCell (Sort.Declaration d) f other = other
+onCell Sort.Process f other = other
+onCell (Sort.Statement s) f other = other
+onCell Sort.Item f other = other
+onCell Sort.Block f other = other
+onCell (Sort.Expression e) f other = other
+onCell Sort.Drive f other = other
+onCell Sort.Netlist f other = other
+onCell Sort.Unknown f other = other
+
+-- the field is a cell
+abbrev pub isCell : Sort → Bool
+isCell s = onCell s (λ x. true) false
+
+-- the two sorts are the same, by their tags
+abbrev pub isSort : Sort → Sort → Bool
+isSort a b = eqb (tagOf a) (tagOf b)

@@ -2,4 +2,5 @@
 pub mod Limits
 pub mod Widths
 pub mod Bits
+pub mod Values
 pub mod Operators

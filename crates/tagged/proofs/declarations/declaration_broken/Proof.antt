@@ -5,7 +5,8 @@ use Prim.Native.Nat.{_+_, _-_, _≤_}
 use native.Mathlib.Nat.{add-zero}
 use native.Mathlib.Omega.{arith}
 use lib.ListN.{length, take, drop}
-use Rattle.tagged.specs.Declarations.{declarationIn, declarationsIn, declarationsAt, declarationBreaks, firstBroken}
+use Rattle.tagged.specs.Refusals.{firstBroken}
+use Rattle.tagged.specs.Declarations.{declarationIn, declarationsIn, declarationsAt, declarationBreaks}
 use Rattle.tagged.proofs.DeclarationWalks.{here-within, here-more, here-placed, here-ended, Walked, walked-start, walked-more, walked-before, broken-none, broken-here, broken-later}
 use borrow.Author.Needs.{needs}
 use Rattle.tagged.proofs.declarations.declaration_broken.Statement.{statement}

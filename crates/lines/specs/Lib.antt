@@ -1,0 +1,1 @@
+-- Nothing is defined here: the table of cases is a theorem, in proofs/.

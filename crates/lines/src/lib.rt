@@ -1,0 +1,1 @@
+// Document 01, "Either side of each line": the table of the cases that are proved stands in proofs/.

@@ -1,0 +1,3 @@
+-- Laws and theorems of modules.
+pub mod Typed
+pub mod Cases

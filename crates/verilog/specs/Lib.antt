@@ -1,0 +1,9 @@
+-- Document 01, the module's half: its tree, its bytes, its refusals, and one cycle.
+pub mod Tree
+pub mod Form
+pub mod Reading
+pub mod Nodes
+pub mod Rules
+pub mod Answer
+pub mod Cycle
+pub mod Quiet
