@@ -1,2 +1,3 @@
--- Document 01's cases marked (P), under one theorem.
+-- Document 01's cases marked (P), and the errors that the course keeps meeting, each table under one theorem.
 pub mod Lines
+pub mod Course

@@ -1,8 +1,8 @@
 -- Document 01, "Either side of each line": the cases marked (P), and "One case whole" from bytes to bytes, as one table under one theorem, which antt computes.
 use mathlib.Core.Path.{_≡_, refl}
 use mathlib.Core.Bool.{Bool, true, false, _&&_}
-use mathlib.Core.List.{List, [], _∷_, _++_}
-use Prim.Native.Nat.{ℕ, _+_, _*_}
+use mathlib.Core.List.{List, [], _∷_}
+use Prim.Native.Nat.{ℕ}
 use lib.Dec.{eqb}
 use lib.ListN.{length}
 use Rattle.words.specs.Bits as bits
@@ -21,7 +21,6 @@ use Rattle.tagged.specs.declared.answers.Answer.{Answer}
 use Rattle.tagged.specs.declared.answers.Answer.the-variants as Answer
 use Rattle.tagged.specs.declared.sorts.Kind.{Kind}
 use Rattle.tagged.specs.declared.sorts.Kind.the-variants as Kind
-use Rattle.netlist.specs.Lists.{Netlist}
 use Rattle.netlist.specs.Form as netlistForm
 use Rattle.netlist.specs.Reading as netlistReading
 use Rattle.netlist.specs.Rules as netlistRules
@@ -39,23 +38,23 @@ use Rattle.translate.specs.Translation as translation
 use Rattle.translate.specs.Answer.{translatedBytes, cellCount}
 
 -- the two lists are the same
-abbrev same : List ℕ → List ℕ → Bool
+abbrev pub same : List ℕ → List ℕ → Bool
 same [] [] = true
 same [] (b ∷ m) = false
 same (a ∷ l) [] = false
 same (a ∷ l) (b ∷ m) = eqb a b && same l m
 
 -- the answer is acceptance, or a refusal with this number and place
-abbrev accepts : Answer → Bool
+abbrev pub accepts : Answer → Bool
 accepts Answer.Accepted = true
 accepts (Answer.Refused rule place) = false
 
-abbrev refuses : ℕ → ℕ → Answer → Bool
+abbrev pub refuses : ℕ → ℕ → Answer → Bool
 refuses number at Answer.Accepted = false
 refuses number at (Answer.Refused rule place) = eqb (numberOf rule) number && eqb place at
 
 -- the run gives this row
-abbrev gives : List ℕ → Outcome (List ℕ) → Bool
+abbrev pub gives : List ℕ → Outcome (List ℕ) → Bool
 gives row stopped = false
 gives row (got next) = same next row
 
@@ -75,11 +74,11 @@ counterNetlist =
     ∷ 0x01 ∷ 0x04 ∷ 0x00 ∷ 0x00 ∷ 0x00 ∷ 0x01 ∷ 0x40 ∷ 0x00 ∷ 0x07 ∷ 0x01 ∷ 0x02 ∷ 0x04 ∷ 0x00 ∷ 0x00 ∷ 0x00 ∷ 0x01 ∷ []
 
 -- two registers of 4 bits, a and b
-abbrev pair : List Declaration
+abbrev pub pair : List Declaration
 pair = register 4 0 (0x61 ∷ []) ∷ register 4 0 (0x62 ∷ []) ∷ []
 
 -- a = b and b = a, or with <=
-abbrev copy : Kind → ℕ → ℕ → Block → Block
+abbrev pub copy : Kind → ℕ → ℕ → Block → Block
 copy kind v u rest = assign kind v (variable u) then rest
 
 abbrev inOne : Kind → Module
@@ -126,7 +125,7 @@ table =
     ∷ eqb (bits.parity 0xffff_ffff) 0
     ∷ []
 
-abbrev all : List Bool → Bool
+abbrev pub all : List Bool → Bool
 all [] = true
 all (t ∷ l) = t && all l
 

@@ -1,12 +1,12 @@
 -- One cycle of a netlist: cells run in order; then all registers change together. A step without meaning stops the run.
-use mathlib.Core.Bool.{Bool, true, false, _&&_}
+use mathlib.Core.Bool.{_&&_}
 use mathlib.Core.List.{List, [], _∷_, _++_}
-use Prim.Native.Nat.{ℕ, _+_}
-use lib.Dec.{leb, ltb, eqb}
+use Prim.Native.Nat.{ℕ}
+use lib.Dec.{ltb, eqb}
 use lib.ListN.{length, getD, set}
 use Rattle.words.specs.Bits.{bit, putBit, mux}
 use Rattle.words.specs.Operators.{oneWidth, oneNumber, twoWidth, twoNumber}
-use Rattle.words.specs.Values.{Value, Outcome, stopped, got, _>>=_, provided}
+use Rattle.words.specs.Values.{Value, Outcome, got, _>>=_, provided}
 use Rattle.tagged.specs.Declarations.{Declaration, variableWidth, registerAt}
 use Rattle.netlist.specs.declared.Operand.{Operand}
 use Rattle.netlist.specs.declared.Operand.the-variants as Operand

@@ -1,9 +1,9 @@
 -- The netlist's bytes: tag 81, the declarations unchanged, then cells, then drives; and refusal 2, the first fault met in reading them.
-use mathlib.Core.Bool.{Bool, true, false, cond}
+use mathlib.Core.Bool.{cond}
 use mathlib.Core.List.{List, [], _∷_, _++_}
 use Prim.Native.Nat.{ℕ, _+_}
-use lib.Dec.{ltb, leb}
-use lib.ListN.{length, getD, drop}
+use lib.Dec.{leb}
+use lib.ListN.{getD}
 use Rattle.tagged.specs.Bytes.{fourBytes}
 use Rattle.tagged.specs.Sorts.{tagOf, onCell, isCell, isSort}
 use Rattle.tagged.specs.Fields.{Judge, Stepper, Body, fieldBytes, allBytesOf, fieldBy, thenBy, fixedThen, ended, many, untilEnd}

@@ -1,5 +1,5 @@
 -- A netlist consists of three lists: declarations, cells, drives. What each cell is made of.
-use mathlib.Core.List.{List, [], _∷_, _++_}
+use mathlib.Core.List.{List, [], _∷_}
 use Prim.Native.Nat.{ℕ}
 use Rattle.tagged.specs.Declarations.{Declaration}
 use Rattle.tagged.specs.declared.sorts.CellSort.{CellSort}

@@ -1,5 +1,5 @@
 -- Refusals 3 to 8 and 12 on a netlist, each a test of a declaration, a cell or a drive, given those before it; the place is the cell or drive.
-use mathlib.Core.Bool.{Bool, true, false, cond, _&&_, _||_, not}
+use mathlib.Core.Bool.{Bool, false, cond, _||_, not}
 use mathlib.Core.List.{List, [], _∷_, map}
 use Prim.Native.Nat.{ℕ, _+_}
 use lib.Dec.{leb, ltb, eqb}

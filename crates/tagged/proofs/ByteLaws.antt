@@ -1,14 +1,14 @@
 -- Numbers and their bytes give each other back; parts of a list of bytes are lists of bytes.
-use mathlib.Core.Path.{_≡_, refl, sym, ap, ap₂, _∙_}
+use mathlib.Core.Path.{_≡_}
 use mathlib.Core.List.{List, [], _∷_, _++_}
-use Prim.Native.Nat.{ℕ, zero, suc, _+_, _-_, _*_, _/_, _%_, _^_, _≤_, _<_}
+use Prim.Native.Nat.{ℕ, _+_, _-_, _*_, _/_, _%_, _^_, _≤_, _<_}
 use native.Mathlib.Decide.{decLt}
 use native.Mathlib.Nat.{add-zero}
 use native.Mathlib.Omega.{arith}
 use lib.Arith.{digits-div, digits-mod}
 use lib.Dec.{lit<}
 use lib.ListN.{length, getD, take, drop, length-take, List·getD-eq-default}
-use lib.Seq.{take-all, getD-take, getD-drop, getD-append-add}
+use lib.Seq.{take-all, getD-take, getD-drop}
 use Rattle.tagged.specs.Bytes.{AllBytes, twoBytes, numberOfTwo, fourBytes, numberOfFour, fourOf}
 
 -- the rest of a list, as the code has it

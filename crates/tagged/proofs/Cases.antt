@@ -1,20 +1,19 @@
 -- Cases on either side of each line of the tagged form: one table, under one theorem, which antt computes. Assumes nothing.
 use mathlib.Core.Path.{_≡_, refl}
-use mathlib.Core.Bool.{Bool, true}
+use mathlib.Core.Bool.{true}
 use mathlib.Core.List.{List, [], _∷_, _++_}
 use Prim.Native.Nat.{ℕ, zero, suc, _+_, _*_, _/_, _%_}
 use lib.ListN.{length, replicate}
 use Rattle.words.proofs.Cases.{Case, case, flag, passes}
-use Rattle.words.specs.Widths.{isWidth}
 use Rattle.tagged.specs.Limits.{longestModule, longestNetlist}
 use Rattle.tagged.specs.Bytes.{twoBytes, numberOfTwo, fourBytes, numberOfFour, fourOf}
 use Rattle.tagged.specs.Sorts.{sortOf, tagOf, declarationSort, statementSort, expressionSort, cellSort}
-use Rattle.tagged.specs.Fields.{openOf, fieldBytes, allBytesOf, fieldBy, fixedThen, manyFrom, readFrom, placedBy}
+use Rattle.tagged.specs.Fields.{openOf, fieldBy, fixedThen, manyFrom, readFrom}
 use Rattle.tagged.specs.Answers.{numberOf}
 use Rattle.tagged.specs.Files.{fileAnswer, outerAnswer}
 use Rattle.tagged.specs.Names.{isName, isNameByte, allNameBytes, sameName}
 use Rattle.tagged.specs.Refusals.{firstBroken}
-use Rattle.tagged.specs.Declarations.{Declaration, declarationBytes, declarationBody, declarationsStep, declarationRead, declarationsAt, declarationsIn, valueBroken, nameTaken, nameBroken, countBroken, declarationBreaks}
+use Rattle.tagged.specs.Declarations.{declarationBody, declarationsStep, declarationRead, declarationsAt, declarationsIn, valueBroken, nameTaken, nameBroken, countBroken, declarationBreaks}
 use Rattle.tagged.specs.Rows.{rowNumbers, allFit, rowsFit, rowAnswer}
 use Rattle.tagged.specs.declared.answers.Rule.{Rule}
 use Rattle.tagged.specs.declared.answers.Rule.the-variants as Rule

@@ -3,15 +3,15 @@
 use mathlib.Core.Path.{_≡_, refl, sym, ap, ap₂, _∙_, subst}
 use mathlib.Core.Bool.{Bool, true, false}
 use mathlib.Core.List.{List, [], _∷_, _++_}
-use Prim.Native.Nat.{ℕ, zero, suc, _+_, _^_, _≤_, _<_}
+use Prim.Native.Nat.{ℕ, _^_, _≤_, _<_}
 use native.Mathlib.Omega.{arith}
 use lib.Dec.{ltb}
-use lib.ListN.{length, getD, take, drop}
+use lib.ListN.{length, take}
 use borrow.Author.Tests.{ltb-true, ltb-false}
 use Rattle.tagged.specs.Bytes.{AllBytes, fourBytes, fourOf}
-use Rattle.tagged.specs.Sorts.{sortOf, tagOf, isDeclaration}
-use Rattle.tagged.specs.Fields.{fieldBytes, allBytesOf, unplaced, placedBy, fixedThen}
-use Rattle.tagged.specs.Declarations.{Declaration, input, register, sortOfDeclaration, declarationPayload, declarationBytes, fixedBytes, declarationBody, declarationsStep, declarationIn, declarationRead, declarationsAt, declarationsIn, initialOf}
+use Rattle.tagged.specs.Sorts.{tagOf, isDeclaration}
+use Rattle.tagged.specs.Fields.{fieldBytes, allBytesOf, unplaced, placedBy}
+use Rattle.tagged.specs.Declarations.{Declaration, input, register, declarationPayload, declarationBytes, fixedBytes, declarationBody, declarationsStep, declarationIn, declarationRead, declarationsAt, declarationsIn, initialOf}
 use Rattle.tagged.specs.declared.sorts.DeclarationSort.{DeclarationSort}
 use Rattle.tagged.specs.declared.sorts.DeclarationSort.the-variants as DeclarationSort
 use Rattle.tagged.specs.declared.sorts.Sort.{Sort}
@@ -21,7 +21,7 @@ use Rattle.tagged.specs.declared.fields.Judged.the-variants as Judged
 use Rattle.tagged.specs.declared.fields.Step.the-variants as Step
 use Rattle.tagged.proofs.ByteLaws.{bytes-four, four-back}
 use Rattle.tagged.proofs.ListLaws.{read-anywhere}
-use Rattle.tagged.proofs.ListBytes.{Stops, Each, none, more, Stands, many-run, run-read, list-many, list-read, placed-unplaced}
+use Rattle.tagged.proofs.ListBytes.{Stops, Each, Stands, many-run, run-read, list-many, list-read, placed-unplaced}
 use Rattle.tagged.proofs.DeclarationLaws.{declaration-sort, sort-in, body-short, body-fine}
 
 known : (s : Sort) → isDeclaration s ≡ true → tagOf s ≡ 0 → ⊥

@@ -1,12 +1,10 @@
 -- Laws of declarations, in the form in which code asks them: one payload, the next in a list, and one turn of each walk.
-use mathlib.Core.Path.{_≡_, refl, sym, ap, ap₂, _∙_}
+use mathlib.Core.Path.{_≡_, refl, sym, ap, _∙_}
 use mathlib.Core.Bool.{Bool, true, false, not, true≢false}
-use mathlib.Core.List.{List, [], _∷_, _++_, map}
-use Prim.Native.Nat.{ℕ, zero, suc, _+_, _-_, _≤_, _<_}
-use native.Mathlib.Nat.{add-zero, add-assoc}
-use native.Mathlib.Numerals.{sub-one, add-one}
+use mathlib.Core.List.{List, [], _∷_}
+use Prim.Native.Nat.{ℕ, _+_, _≤_, _<_}
 use native.Mathlib.Omega.{arith}
-use lib.ListN.{length, getD, take, drop, length-drop}
+use lib.ListN.{length, getD, take, drop}
 use lib.Dec.{leb}
 use lib.Seq.{length-take-le}
 use borrow.Author.Tests.{lt-ltb, le-ltb}
@@ -14,8 +12,8 @@ use types.Run.{OneOf, miss}
 use denote.Enum.Declared as enums
 use Rattle.words.specs.Widths.{isWidth, fitsWidth}
 use Rattle.tagged.specs.Bytes.{fourOf}
-use Rattle.tagged.specs.Sorts.{sortOf, onDeclaration, isDeclaration}
-use Rattle.tagged.specs.Fields.{openOf, fixedThen, anyBytes, onField, Placed, readPlaced, unplaced}
+use Rattle.tagged.specs.Sorts.{onDeclaration, isDeclaration}
+use Rattle.tagged.specs.Fields.{openOf, fixedThen, onField, readPlaced, unplaced}
 use Rattle.tagged.specs.Limits.{mostVariables}
 use Rattle.tagged.specs.Names.{isName}
 use Rattle.tagged.specs.Declarations.{Declaration, input, register, widthOf, nameOf, sortOfDeclaration, fixedBytes, declarationBody, declarationIn, declarationRead, nextIn, declarationsAt, declarationsIn, valueBroken, nameTaken, nameBroken, countBroken, declarationBreaks}

@@ -1,26 +1,22 @@
 -- One turn of each loop over a list of declarations, which has come to the index `at`, and what is known at its end.
 use mathlib.Core.Path.{_≡_, refl, sym, ap, ap₂, _∙_}
 use mathlib.Core.Bool.{Bool, true, false}
-use mathlib.Core.List.{List, [], _∷_, _++_, map, append-assoc}
-use Prim.Native.Nat.{ℕ, zero, suc, _+_, _-_, _≤_, _<_}
-use native.Mathlib.Nat.{add-zero, add-assoc, zero-add}
-use native.Mathlib.Numerals.{sub-one, add-one}
+use mathlib.Core.List.{List, [], _∷_, _++_}
+use Prim.Native.Nat.{ℕ, suc, _+_, _-_, _≤_, _<_}
 use native.Mathlib.Omega.{arith}
-use lib.ListN.{length, getD, take, drop, set, replicate, length-append, length-drop}
-use lib.Seq.{drop-drop, take-add, set-out, drop-nil, take-nil}
-use Rattle.tagged.specs.Limits.{mostVariables}
-use Rattle.tagged.specs.Fields.{Placed, unplaced}
+use lib.ListN.{length, take, drop, length-drop}
+use lib.Seq.{drop-drop, take-add, take-nil}
+use Rattle.tagged.specs.Fields.{Placed}
 use Rattle.tagged.specs.Names.{sameName}
 use Rattle.tagged.specs.Refusals.{firstBroken}
-use Rattle.tagged.specs.Declarations.{Declaration, widthOf, nameOf, sortOfDeclaration, registerMark, fixedBytes, declarationIn, nextIn, declarationsAt, declarationsIn, nameTaken, tableOf, variableTable, withVariable}
+use Rattle.tagged.specs.Declarations.{Declaration, nameOf, fixedBytes, declarationIn, nextIn, declarationsAt, declarationsIn, nameTaken}
 use Rattle.tagged.specs.declared.sorts.DeclarationSort.{DeclarationSort}
 use Rattle.tagged.specs.declared.declarations.Next.{Next}
 use Rattle.tagged.specs.declared.declarations.Next.the-variants as Next
-use Rattle.tagged.specs.declared.declarations.VariableTable.{VariableTable}
 use Rattle.tagged.specs.declared.answers.Found.{Found}
 use Rattle.tagged.specs.declared.answers.Found.the-variants as Found
 use Rattle.tagged.proofs.ByteLaws.{rest}
-use Rattle.tagged.proofs.DeclarationLaws.{name-in, width-in, sort-in, next-whole, next-at, next-ended, next-in, none-in}
+use Rattle.tagged.proofs.DeclarationLaws.{name-in, next-whole, next-at, next-ended, next-in, none-in}
 
 -- the code steps over a header and then a payload, the list over both at once
 step : (at n : ℕ) (l : List ℕ) → drop (n + 3) (drop at l) ≡ drop (at + 3 + n) l

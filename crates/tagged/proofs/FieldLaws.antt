@@ -1,9 +1,9 @@
 -- Laws of fields, in the form in which code asks them: each chain of equations ends in a definition of specs/Fields.
-use mathlib.Core.Path.{_≡_, refl, sym, ap, _∙_}
+use mathlib.Core.Path.{_≡_, refl, sym, _∙_}
 use mathlib.Core.Bool.{Bool, true, false, cond}
-use mathlib.Core.List.{List, [], _∷_}
-use Prim.Native.Nat.{ℕ, zero, suc, _+_, _-_, _≤_, _<_}
-use native.Mathlib.Nat.{add-sub-cancel, add-zero, add-assoc}
+use mathlib.Core.List.{List}
+use Prim.Native.Nat.{ℕ, _+_, _-_, _≤_, _<_}
+use native.Mathlib.Nat.{add-sub-cancel}
 use native.Mathlib.Omega.{arith}
 use lib.Dec.{ltb, leb, eqb}
 use lib.ListN.{length, getD, take, drop}
@@ -16,7 +16,7 @@ use Rattle.tagged.specs.declared.fields.Judged.{Judged}
 use Rattle.tagged.specs.declared.fields.Judged.the-variants as Judged
 use Rattle.tagged.specs.declared.fields.Step.{Step}
 use Rattle.tagged.specs.declared.fields.Step.the-variants as Step
-use Rattle.tagged.specs.Fields.{sizeOf, openOf, Judge, Stepper, Body, passing, afterOpening, afterStep, fieldBy, thenBy, fixedThen, ended}
+use Rattle.tagged.specs.Fields.{sizeOf, openOf, Judge, Stepper, Body, passing, afterOpening, fieldBy, thenBy, fixedThen, ended}
 use Rattle.tagged.proofs.ByteLaws.{rest}
 
 -- a whole field stands at the front of l: its sort, and its payload's length

@@ -8,10 +8,12 @@ pub mod FieldLaws
 pub mod ListLaws
 pub mod ListBytes
 pub mod ChoiceLaws
+pub mod RefusalLaws
 pub mod NameLaws
 pub mod DeclarationLaws
 pub mod DeclarationBytes
 pub mod DeclarationWalks
 pub mod TableLaws
 pub mod RowLaws
+pub mod CycleLaws
 pub mod Cases

@@ -1,12 +1,11 @@
 -- Lists of fields and their bytes give each other back: what is read without a fault is written as it stood, and what is written is read as it was.
 use mathlib.Core.Path.{_≡_, refl, sym, ap, ap₂, _∙_, subst}
-use mathlib.Core.Bool.{Bool, true, false, false≢true}
+use mathlib.Core.Bool.{Bool, true, false}
 use mathlib.Core.List.{List, [], _∷_, _++_, append-assoc}
-use Prim.Native.Nat.{ℕ, zero, suc, _+_, _-_, _≤_, _<_}
-use native.Mathlib.Nat.{add-zero, add-assoc}
+use Prim.Native.Nat.{ℕ, zero, suc, _+_, _≤_, _<_}
 use native.Mathlib.Omega.{arith}
 use lib.ListN.{length, getD, take, drop, length-append, length-take, length-drop}
-use lib.Seq.{take-add, take-at, drop-at, take-all}
+use lib.Seq.{take-add, take-at, drop-at}
 use Rattle.tagged.specs.Bytes.{AllBytes, twoBytes, numberOfTwo}
 use Rattle.tagged.specs.Sorts.{sortOf, tagOf}
 use Rattle.tagged.specs.declared.sorts.Sort.{Sort}
@@ -16,11 +15,11 @@ use Rattle.tagged.specs.declared.fields.Judged.{Judged}
 use Rattle.tagged.specs.declared.fields.Judged.the-variants as Judged
 use Rattle.tagged.specs.declared.fields.Step.{Step}
 use Rattle.tagged.specs.declared.fields.Step.the-variants as Step
-use Rattle.tagged.specs.Fields.{fieldBytes, allBytesOf, sizeOf, openOf, Body, further, fieldBy, many, Placed, readPlaced, unplaced, placedBy}
+use Rattle.tagged.specs.Fields.{fieldBytes, allBytesOf, openOf, Body, further, fieldBy, many, readPlaced, unplaced, placedBy}
 use Rattle.tagged.proofs.ByteLaws.{bytes-two, bytes-drop, bytes-take, two-back}
 use Rattle.tagged.proofs.SortLaws.{sort-back, tag-back}
-use Rattle.tagged.proofs.FieldLaws.{Whole, whole-open, open-whole, Passed, field-passed, passed-field}
-use Rattle.tagged.proofs.ListLaws.{further-zero, many-none, many-stop, many-refused, many-past, read-end, read-stop, read-more, further-past}
+use Rattle.tagged.proofs.FieldLaws.{Whole, open-whole, Passed, field-passed, passed-field}
+use Rattle.tagged.proofs.ListLaws.{many-none, many-stop, many-refused, many-past, read-end, read-stop, read-more, further-past}
 
 -- a whole field at the front is its tag, its length and its payload
 pub whole-bytes : (l : List ℕ) {s : Sort} {n : ℕ} → AllBytes l → Whole l s n → take (n + 3) l ≡ fieldBytes (getD l 0 0) (take n (drop 3 l))

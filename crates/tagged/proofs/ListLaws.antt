@@ -1,27 +1,23 @@
 -- Laws of lists of fields: one turn of a walk over them, and that lists and their bytes give each other back, both ways.
-use mathlib.Core.Path.{_≡_, refl, sym, ap, ap₂, _∙_, subst}
-use mathlib.Core.Bool.{Bool, true, false, cond}
-use mathlib.Core.List.{List, [], _∷_, _++_, append-assoc}
+use mathlib.Core.Path.{_≡_, refl, sym, ap, _∙_}
+use mathlib.Core.Bool.{Bool, true, false}
+use mathlib.Core.List.{List, [], _∷_}
 use Prim.Native.Nat.{ℕ, zero, suc, _+_, _-_, _≤_, _<_}
 use native.Mathlib.Nat.{add-zero, zero-add, add-assoc}
-use native.Mathlib.Numerals.{sub-one, add-one, one-add}
+use native.Mathlib.Numerals.{sub-one, one-add}
 use native.Mathlib.Omega.{arith}
-use lib.ListN.{length, getD, take, drop, length-append, length-take, length-drop}
-use lib.Seq.{drop-drop, take-add, take-at, drop-at}
+use lib.ListN.{length, getD, take, drop, length-drop}
+use lib.Seq.{drop-drop}
 use Rattle.tagged.specs.Choice.{choose}
-use Rattle.tagged.specs.Bytes.{AllBytes, twoBytes, numberOfTwo}
-use Rattle.tagged.specs.Sorts.{sortOf, tagOf}
+use Rattle.tagged.specs.Sorts.{sortOf}
 use Rattle.tagged.specs.declared.sorts.Sort.{Sort}
 use Rattle.tagged.specs.declared.fields.Opened.{Opened}
 use Rattle.tagged.specs.declared.fields.Opened.the-variants as Opened
-use Rattle.tagged.specs.declared.fields.Judged.{Judged}
-use Rattle.tagged.specs.declared.fields.Judged.the-variants as Judged
 use Rattle.tagged.specs.declared.fields.Step.{Step}
 use Rattle.tagged.specs.declared.fields.Step.the-variants as Step
-use Rattle.tagged.specs.Fields.{fieldBytes, allBytesOf, sizeOf, openOf, Stepper, Body, further, fieldBy, nextField, manyFrom, many, Placed, onField, readFrom, readPlaced, unplaced, placedBy}
-use Rattle.tagged.proofs.ByteLaws.{rest, bytes-two, bytes-drop, bytes-take, two-back}
-use Rattle.tagged.proofs.SortLaws.{sort-back, tag-back}
-use Rattle.tagged.proofs.FieldLaws.{Whole, whole-open, open-whole, Passed, field-passed, passed-field}
+use Rattle.tagged.specs.Fields.{openOf, Stepper, further, manyFrom, many, Placed, onField, readFrom, readPlaced, unplaced}
+use Rattle.tagged.proofs.ByteLaws.{rest}
+use Rattle.tagged.proofs.FieldLaws.{Whole, whole-open}
 
 -- steps add up
 pub further-zero : (s : Step) → further 0 s ≡ s

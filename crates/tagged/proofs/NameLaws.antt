@@ -1,15 +1,15 @@
 -- Laws of names: which bytes a name may have, one turn of each loop, and that the test of sameness is equality.
 use mathlib.Core.Path.{_≡_, refl, sym, ap, ap₂, _∙_}
-use mathlib.Core.Bool.{Bool, true, false, _&&_, _||_, and-true, false≢true}
+use mathlib.Core.Bool.{Bool, true, false, _&&_, false≢true}
 use mathlib.Core.List.{List, [], _∷_}
-use Prim.Native.Nat.{ℕ, zero, suc, _+_, _≤_, _<_}
+use Prim.Native.Nat.{ℕ, suc, _+_, _≤_, _<_}
 use native.Mathlib.Numerals.{add-one}
 use native.Mathlib.Omega.{arith}
 use lib.Dec.{eqb}
 use lib.ListN.{length, getD, drop, drop-of-length-le}
 use lib.Seq.{drop-cons}
 use borrow.Author.Tests.{eq-eqb, ne-eqb, eqb-true}
-use Rattle.tagged.specs.Names.{isDigit, isNameByte, allNameBytes, sameName}
+use Rattle.tagged.specs.Names.{isNameByte, allNameBytes, sameName}
 use Rattle.tagged.proofs.RangeLaws.{range-above, range-below, range-within}
 
 -- which bytes a name may have

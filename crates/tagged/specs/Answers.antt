@@ -1,7 +1,7 @@
 -- Answers: the numbers of document 01 for each case, and the values in which C gets them.
 use Prim.Native.Nat.{ℕ}
 use mathlib.Core.Bool.{cond}
-use mathlib.Core.List.{List, [], _∷_}
+use mathlib.Core.List.{List}
 use mathlib.Core.Path.{_≡_}
 use lib.Dec.{eqb}
 use Rattle.tagged.specs.declared.answers.Rule.{Rule}

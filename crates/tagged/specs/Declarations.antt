@@ -1,5 +1,5 @@
 -- Declarations, which modules and netlists share: tags 02 and 03, refusals 2 to 5 on them, and what they declare.
-use mathlib.Core.Bool.{Bool, true, false, cond, _&&_, _||_, not}
+use mathlib.Core.Bool.{Bool, true, false, _||_, not}
 use mathlib.Core.List.{List, [], _∷_, _++_, map}
 use Prim.Native.Nat.{ℕ, zero, suc, _+_}
 use lib.Dec.{leb}
@@ -8,7 +8,7 @@ use Rattle.words.specs.Widths.{isWidth, fitsWidth}
 use Rattle.tagged.specs.Limits.{mostVariables}
 use Rattle.tagged.specs.Bytes.{fourBytes, fourOf}
 use Rattle.tagged.specs.Sorts.{onDeclaration, isDeclaration, tagOf}
-use Rattle.tagged.specs.Fields.{Judge, Stepper, Body, fieldBy, fixedThen, anyBytes, many, fieldBytes, openOf, onField, passedBytes, Placed, readPlaced, unplaced, placedBy}
+use Rattle.tagged.specs.Fields.{Stepper, Body, fieldBy, fixedThen, anyBytes, many, fieldBytes, openOf, onField, passedBytes, Placed, readPlaced, unplaced, placedBy}
 use Rattle.tagged.specs.Names.{isName, sameName}
 use Rattle.tagged.specs.Refusals.{firstBroken}
 use Rattle.tagged.specs.declared.sorts.DeclarationSort.{DeclarationSort}
@@ -23,7 +23,6 @@ use Rattle.tagged.specs.declared.fields.Judged.the-variants as Judged
 use Rattle.tagged.specs.declared.answers.Rule.{Rule}
 use Rattle.tagged.specs.declared.answers.Rule.the-variants as Rule
 use Rattle.tagged.specs.declared.answers.Found.{Found}
-use Rattle.tagged.specs.declared.answers.Found.the-variants as Found
 
 -- 02 input: width byte, name. 03 register: width byte, four-byte initial value, name
 pub data Declaration : Type 0 where

@@ -1,6 +1,6 @@
 -- Fields: a tag byte, a two-byte length (high byte first) and a payload of that length; how they are written, opened, judged and listed.
 -- Throughout, `l` is what is left of a payload, `base` the place of its first byte in the file, `owner` the place of the field that holds it.
-use mathlib.Core.Bool.{Bool, true, false, cond}
+use mathlib.Core.Bool.{Bool, true, cond}
 use mathlib.Core.List.{List, [], _∷_, _++_}
 use Prim.Native.Nat.{ℕ, zero, suc, _+_, _-_}
 use lib.Dec.{ltb, leb, eqb}

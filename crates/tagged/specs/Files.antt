@@ -4,7 +4,7 @@ use mathlib.Core.List.{List}
 use Prim.Native.Nat.{ℕ, _+_}
 use lib.Dec.{leb, eqb}
 use lib.ListN.{length}
-use Rattle.tagged.specs.Limits.{shortestFile, longestModule, longestNetlist}
+use Rattle.tagged.specs.Limits.{shortestFile}
 use Rattle.tagged.specs.Fields.{sizeOf}
 use Rattle.tagged.specs.declared.answers.Rule.the-variants as Rule
 use Rattle.tagged.specs.declared.answers.Answer.{Answer}

@@ -7,6 +7,7 @@ pub mod Sorts
 pub mod Bytes
 pub mod Fields
 pub mod Refusals
+pub mod Stands
 pub mod Files
 pub mod Names
 pub mod Declarations

@@ -5,7 +5,6 @@ use Prim.Native.Nat.{ℕ, _+_}
 use lib.ListN.{length}
 use Rattle.words.specs.declared.TwoOperand.the-variants as two-operand
 use Rattle.words.specs.Operators.{oneWidth, twoWidth}
-use Rattle.tagged.specs.Declarations.{Declaration, variableWidth}
 use Rattle.netlist.specs.Lists.{Netlist, operandWidth}
 use Rattle.netlist.specs.Rules.{registersFrom}
 use Rattle.netlist.specs.declared.Operand.{Operand}

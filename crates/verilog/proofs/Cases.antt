@@ -1,9 +1,9 @@
 -- Closed cases of modules: one table, under one theorem, which antt computes. Assumes nothing.
 use mathlib.Core.Path.{_≡_, refl}
-use mathlib.Core.Bool.{Bool, true}
-use mathlib.Core.List.{List, [], _∷_, _++_}
-use Prim.Native.Nat.{ℕ, zero, suc, _+_, _*_}
-use Rattle.words.proofs.Cases.{Case, case, flag, passes}
+use mathlib.Core.Bool.{true}
+use mathlib.Core.List.{List, [], _∷_}
+use Prim.Native.Nat.{ℕ, _+_, _*_}
+use Rattle.words.proofs.Cases.{Case, case, passes}
 use Rattle.words.specs.Bits as bits
 use Rattle.words.specs.Operators as operators
 use Rattle.words.specs.Values.{Outcome, stopped, got}

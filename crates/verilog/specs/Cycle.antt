@@ -6,7 +6,7 @@ use lib.Dec.{ltb, eqb}
 use lib.ListN.{length, getD, set, drop}
 use Rattle.words.specs.Bits.{bit, putBit}
 use Rattle.words.specs.Operators.{oneWidth, oneNumber, twoWidth, twoNumber}
-use Rattle.words.specs.Values.{Value, Outcome, stopped, got, _>>=_, provided}
+use Rattle.words.specs.Values.{Value, Outcome, got, _>>=_, provided}
 use Rattle.tagged.specs.Choice.{choose}
 use Rattle.tagged.specs.Declarations.{Declaration, variableWidth, registerAt}
 use Rattle.tagged.specs.declared.sorts.Kind.{Kind}

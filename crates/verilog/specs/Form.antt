@@ -1,15 +1,12 @@
 -- The module's bytes, and refusal 2, the first fault met in reading them from left to right.
-use mathlib.Core.Bool.{Bool, true, false, cond}
+use mathlib.Core.Bool.{cond}
 use mathlib.Core.List.{List, [], _∷_, _++_}
 use Prim.Native.Nat.{ℕ, zero, suc, _+_}
-use Rattle.words.specs.declared.OneOperand.{OneOperand}
-use Rattle.words.specs.declared.TwoOperand.{TwoOperand}
 use Rattle.tagged.specs.Limits.{deepest}
 use Rattle.tagged.specs.Bytes.{fourBytes}
 use Rattle.tagged.specs.Sorts.{tagOf, onStatement, onExpression, isSort}
 use Rattle.tagged.specs.Fields.{Judge, Stepper, Body, fieldBytes, allBytesOf, fieldBy, thenBy, fixedThen, ended, many, untilEnd}
 use Rattle.tagged.specs.Declarations.{declarationBytes, declarationsStep}
-use Rattle.tagged.specs.declared.sorts.Kind.{Kind}
 use Rattle.tagged.specs.declared.sorts.StatementSort.{StatementSort}
 use Rattle.tagged.specs.declared.sorts.StatementSort.the-variants as StatementSort
 use Rattle.tagged.specs.declared.sorts.ExpressionSort.{ExpressionSort}

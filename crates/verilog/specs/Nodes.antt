@@ -5,7 +5,7 @@ use lib.ListN.{length}
 use Rattle.tagged.specs.Fields.{Placed, allBytesOf}
 use Rattle.tagged.specs.Declarations.{Declaration, declarationBytes}
 use Rattle.verilog.specs.Tree.{Expression, constant, variable, fixedBit, chosenBit, one, two, Statement, assign, assignBit, ifElse, case, Block, end, _then_, Items, default, item, Module}
-use Rattle.verilog.specs.Form.{expressionBytes, statementBytes, blockPayload, itemsBytes, processBytes}
+use Rattle.verilog.specs.Form.{expressionBytes, statementBytes, blockPayload, processBytes}
 
 -- what a field is; an item knows its case's selector
 pub data What : Type 0 where

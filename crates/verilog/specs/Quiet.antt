@@ -5,11 +5,11 @@ use mathlib.Core.List.{List, [], _∷_}
 use Prim.Native.Nat.{ℕ}
 use lib.Dec.{eqb}
 use lib.ListN.{length}
-use Rattle.words.specs.Values.{Value, Outcome, stopped, got, isGot}
+use Rattle.words.specs.Values.{Outcome, stopped, got, isGot}
 use Rattle.tagged.specs.Cycles.{withInputs}
 use Rattle.tagged.specs.Declarations.{Declaration}
-use Rattle.verilog.specs.Tree.{Expression, Statement, assign, assignBit, ifElse, case, Block, end, _then_, Items, default, item, Module}
-use Rattle.verilog.specs.Cycle.{State, evaluate, execute, executeBlock, executeAll, moduleCycle}
+use Rattle.verilog.specs.Tree.{Statement, assign, assignBit, ifElse, case, Block, end, _then_, Items, default, item, Module}
+use Rattle.verilog.specs.Cycle.{State, evaluate, execute, executeBlock, moduleCycle}
 
 -- what was got passes the test
 abbrev pub gotAnd : {A : Type 0} → (A → Bool) → Outcome A → Bool

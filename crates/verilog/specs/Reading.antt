@@ -1,9 +1,9 @@
 -- The tree that is read from bytes, by total functions: what is malformed is a constant of width 0, the end of a block, or an empty default.
 -- The first argument of what recurses is how many levels of fields may still be opened.
-use mathlib.Core.Bool.{Bool, true, false, cond}
+use mathlib.Core.Bool.{cond}
 use mathlib.Core.List.{List, [], _∷_}
 use Prim.Native.Nat.{ℕ, zero, suc, _+_}
-use lib.ListN.{length, getD, take, drop}
+use lib.ListN.{getD, take, drop}
 use Rattle.tagged.specs.Bytes.{fourOf}
 use Rattle.tagged.specs.Sorts.{onStatement, onExpression, isStatement, isSort}
 use Rattle.tagged.specs.Fields.{openOf, onField, fieldBy, many, passedBytes, readPlaced, unplaced}

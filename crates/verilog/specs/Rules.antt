@@ -7,7 +7,7 @@ use lib.ListN.{length}
 use Rattle.words.specs.Widths.{isWidth, fitsWidth, indexWithin}
 use Rattle.words.specs.Operators.{oneWidth, twoWidth}
 use Rattle.tagged.specs.Limits.{mostProcesses}
-use Rattle.tagged.specs.Fields.{Placed, unplaced}
+use Rattle.tagged.specs.Fields.{unplaced}
 use Rattle.tagged.specs.Refusals.{firstBroken}
 use Rattle.tagged.specs.Declarations.{Declaration, variableWidth, registerAt, valueBroken, nameBroken, countBroken}
 use Rattle.tagged.specs.declared.sorts.Kind.{Kind}

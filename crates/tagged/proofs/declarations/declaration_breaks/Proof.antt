@@ -1,5 +1,5 @@
 -- `tagged::declarations::declaration_breaks` meets its contract: each arm is the rule that the match found. Assumes nothing.
-use mathlib.Core.Path.{sym, ap, _∙_}
+use mathlib.Core.Path.{sym, _∙_}
 use Rattle.tagged.specs.Declarations.{declarationBreaks, declarationsIn}
 use Rattle.tagged.proofs.DeclarationLaws.{count-taken, other-rule}
 use borrow.Author.Needs.{needs}

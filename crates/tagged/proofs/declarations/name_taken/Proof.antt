@@ -1,6 +1,6 @@
 -- `tagged::declarations::name_taken` meets its contract: what is passed has other names, so the whole is as the rest. Assumes nothing.
 use mathlib.Core.Path.{_≡_, refl, _∙_}
-use Prim.Native.Nat.{_+_, _-_, _≤_}
+use Prim.Native.Nat.{_+_, _≤_}
 use native.Mathlib.Omega.{arith}
 use lib.ListN.{length, drop, take}
 use Rattle.tagged.specs.Declarations.{declarationsIn, nameTaken}

@@ -1,7 +1,6 @@
 -- `tagged::declarations::next_declaration` meets its contract: each arm is the field that was opened. Assumes nothing.
-use mathlib.Core.Path.{sym, ap, _∙_}
+use mathlib.Core.Path.{sym}
 use Rattle.tagged.specs.Declarations.{nextIn}
-use Rattle.tagged.proofs.FieldLaws.{open-whole}
 use Rattle.tagged.proofs.DeclarationLaws.{not-declaration, other-sort}
 use borrow.Author.Needs.{needs}
 use Rattle.tagged.proofs.declarations.next_declaration.Statement.{statement}

@@ -1,9 +1,8 @@
 -- `tagged::declarations::value_broken` meets its contract: the constructor's answer says whether the width is one; the tests follow the definition. Assumes nothing.
-use mathlib.Core.Path.{_≡_, sym, ap, _∙_}
+use mathlib.Core.Path.{_≡_, sym, _∙_}
 use Prim.Native.Nat.{ℕ}
 use native.Mathlib.Omega.{arith}
 use Rattle.words.specs.Widths.{isWidth}
-use Rattle.tagged.specs.Declarations.{declarationIn, valueBroken}
 use Rattle.tagged.proofs.ChoiceLaws.{first-taken, second-taken}
 use Rattle.tagged.proofs.DeclarationLaws.{broken-width, fine-input, fine-register}
 use borrow.Author.Needs.{needs}

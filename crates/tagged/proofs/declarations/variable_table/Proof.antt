@@ -1,6 +1,6 @@
 -- `tagged::declarations::variable_table` meets its contract: the table so far, filled with the rest of the list, is the list's. Assumes nothing.
 use mathlib.Core.Path.{_≡_, sym, ap, _∙_}
-use Prim.Native.Nat.{_+_, _-_, _≤_}
+use Prim.Native.Nat.{_-_, _≤_}
 use native.Mathlib.Omega.{arith}
 use lib.ListN.{length, getD, drop}
 use Rattle.tagged.specs.Declarations.{declarationsIn, variableTable, registerMark}

@@ -1,9 +1,7 @@
 -- `tagged::answers::Answer::reply` meets its contract: each arm applies the definition to the answer that led to it. Assumes nothing.
-use mathlib.Core.Path.{_≡_, sym, ap, _∙_}
-use Prim.Native.Nat.{ℕ}
+use mathlib.Core.Path.{sym, ap, _∙_}
 use borrow.Author.Needs.{needs}
-use Rattle.tagged.specs.declared.answers.Reply.{Reply}
-use Rattle.tagged.specs.Answers.{numberOf, replyOf}
+use Rattle.tagged.specs.Answers.{replyOf}
 use Rattle.tagged.proofs.answers.Answer.reply.Statement.{statement}
 use Rattle.tagged.proofs.answers.Answer.reply.Tie as tie
 

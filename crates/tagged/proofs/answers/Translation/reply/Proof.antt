@@ -1,9 +1,7 @@
 -- `tagged::answers::Translation::reply` meets its contract: each arm applies the definition to the answer that led to it. Assumes nothing.
-use mathlib.Core.Path.{_≡_, sym, ap, _∙_}
-use Prim.Native.Nat.{ℕ}
+use mathlib.Core.Path.{sym, ap, _∙_}
 use borrow.Author.Needs.{needs}
-use Rattle.tagged.specs.declared.answers.Reply.{Reply}
-use Rattle.tagged.specs.Answers.{numberOf, translationReply}
+use Rattle.tagged.specs.Answers.{translationReply}
 use Rattle.tagged.proofs.answers.Translation.reply.Statement.{statement}
 use Rattle.tagged.proofs.answers.Translation.reply.Tie as tie
 
