@@ -5,3 +5,4 @@ pub mod Reading
 pub mod Rules
 pub mod Answer
 pub mod Cycle
+pub mod Fits

@@ -83,7 +83,7 @@ declarations-read base owner l m h e =
     }
 
 -- a declaration whose numbers fit their bytes
-pub Writable : Declaration → Type 0
+unfoldable pub Writable : Declaration → Type 0
 Writable d = (initialOf d < 2 ^ 32) × (length (declarationPayload d) < 65536)
 
 five : (w v : ℕ) (name : List ℕ) → 5 ≤ length (w ∷ fourBytes v ++ name)

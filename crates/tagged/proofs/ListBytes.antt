@@ -97,7 +97,7 @@ module _ (wanted : Sort → Bool) (body : Body) where
           absurd (let g = many-refused wanted (fieldBy body) base owner (x ∷ l) some is y p in let z : _≡_ {A = ℕ} 0 1 = cc in omega arith)
 
 -- what follows begins no field that is wanted
-pub Stops : (Sort → Bool) → List ℕ → Type 0
+unfoldable pub Stops : (Sort → Bool) → List ℕ → Type 0
 Stops wanted after = (length after ≡ 0 → ⊥) → wanted (sortOf (getD after 0 0)) ≡ false
 
 module _ {A : Type 0} (wanted : Sort → Bool) (body : Body) (read : Sort → List ℕ → A) (bytes : A → List ℕ) where

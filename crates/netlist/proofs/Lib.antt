@@ -1,0 +1,8 @@
+-- Laws and theorems of netlists: their bytes and lists give each other back, and a netlist without refusal is one whose bytes are accepted.
+pub mod FieldRuns
+pub mod CellBytes
+pub mod NetlistBytes
+pub mod PassLaws
+pub mod RulePasses
+pub mod Accepted
+pub mod RulesFit
