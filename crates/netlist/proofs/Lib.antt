@@ -6,3 +6,10 @@ pub mod PassLaws
 pub mod RulePasses
 pub mod Accepted
 pub mod RulesFit
+pub mod PassedRules
+pub mod RegisterLaws
+pub mod NeverStops
+pub mod BreakTests
+pub mod WholeTests
+pub mod RefusedExactly
+pub mod Stops

@@ -6,3 +6,4 @@ pub mod Rules
 pub mod Answer
 pub mod Cycle
 pub mod Fits
+pub mod Breaks

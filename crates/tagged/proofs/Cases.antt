@@ -3,7 +3,9 @@ use mathlib.Core.Path.{_≡_, refl}
 use mathlib.Core.Bool.{true}
 use mathlib.Core.List.{List, [], _∷_, _++_}
 use Prim.Native.Nat.{ℕ, zero, suc, _+_, _*_, _/_, _%_}
-use lib.ListN.{length, replicate}
+use lib.ListN.{length, getD, replicate}
+use Rattle.words.specs.Values.{Outcome, stopped, got}
+use Rattle.tagged.specs.Cycles.{withInputs, cyclesBy}
 use Rattle.words.proofs.Cases.{Case, case, flag, passes}
 use Rattle.tagged.specs.Limits.{longestModule, longestNetlist}
 use Rattle.tagged.specs.Bytes.{twoBytes, numberOfTwo, fourBytes, numberOfFour, fourOf}
@@ -56,6 +58,18 @@ n = 0x03 ∷ 0 ∷ 6 ∷ 4 ∷ 0 ∷ 0 ∷ 0 ∷ 0 ∷ 0x6E ∷ []
 inputs : ℕ → List ℕ
 inputs zero = []
 inputs (suc k) = inputs k ++ (0x02 ∷ 0 ∷ 3 ∷ 1 ∷ (0x61 + k / 26) ∷ (0x61 + k % 26) ∷ [])
+
+-- a cycle that counts, and the rows that it leaves, as one number
+counter : List ℕ → Outcome (List ℕ)
+counter row = got ((getD row 0 0 + 1) ∷ [])
+
+abbrev rowsCode : ℕ → List (List ℕ) → ℕ
+rowsCode k [] = k
+rowsCode k (row ∷ rows) = rowsCode (k * 1000 + getD row 0 0) rows
+
+abbrev counting : Outcome (List (List ℕ)) → ℕ
+counting stopped = 0
+counting (got rows) = rowsCode 0 rows
 
 broken : Rule → List ℕ → ℕ
 broken rule l = finding (firstBroken (declarationBreaks rule) [] (declarationsAt 3 l))
@@ -114,6 +128,8 @@ table =
     ∷ case (answering (rowAnswer (1 ∷ 4 ∷ []) (0 ∷ 0 ∷ 0 ∷ 1 ∷ 0 ∷ 0 ∷ 0 ∷ 15 ∷ []) 7)) 14_000
     ∷ case (answering (rowAnswer [] [] 0)) 0
     ∷ case (answering (rowAnswer [] (0 ∷ []) 0)) 14_000
+    -- cycles: each from the register left by the last; a counter from 4, three cycles without inputs
+    ∷ case (counting (cyclesBy counter (declarationsIn n) (4 ∷ []) ([] ∷ [] ∷ [] ∷ []))) 5_006_007
     -- numbers: high byte first
     ∷ case (numberOfTwo 1 2) 258
     ∷ case (fourOf (0 ∷ 1 ∷ 0 ∷ 2 ∷ [])) 65538
@@ -121,5 +137,5 @@ table =
     ∷ []
 
 pub cases : passes table ≡ true
-unfolding table openOf sortOf tagOf declarationSort statementSort expressionSort cellSort numberOf numberOfTwo numberOfFour fourOf fourBytes twoBytes fileAnswer outerAnswer isName isNameByte allNameBytes sameName inputs broken declarationsStep declarationBody fieldBy fixedThen manyFrom readFrom declarationsAt declarationRead firstBroken declarationBreaks valueBroken nameBroken nameTaken countBroken rowAnswer rowsFit allFit rowNumbers
+unfolding table openOf sortOf tagOf declarationSort statementSort expressionSort cellSort numberOf numberOfTwo numberOfFour fourOf fourBytes twoBytes fileAnswer outerAnswer isName isNameByte allNameBytes sameName inputs broken counter withInputs cyclesBy declarationsStep declarationBody fieldBy fixedThen manyFrom readFrom declarationsAt declarationRead firstBroken declarationBreaks valueBroken nameBroken nameTaken countBroken rowAnswer rowsFit allFit rowNumbers
 cases = refl

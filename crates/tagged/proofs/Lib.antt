@@ -8,10 +8,13 @@ pub mod FieldLaws
 pub mod ListLaws
 pub mod ListBytes
 pub mod ChoiceLaws
+pub mod TestLaws
 pub mod RefusalLaws
+pub mod PlaceLaws
 pub mod NameLaws
 pub mod DeclarationLaws
 pub mod DeclarationBytes
+pub mod DeclarationTests
 pub mod DeclarationWalks
 pub mod TableLaws
 pub mod RowLaws

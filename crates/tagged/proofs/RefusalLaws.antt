@@ -1,13 +1,16 @@
 -- What the first place that breaks a rule, and the first rule that has a place, say of the elements and of the rules. By induction on the list.
 use mathlib.Core.Path.{_≡_, refl, sym, ap}
-use mathlib.Core.Bool.{Bool, true, false}
+use mathlib.Core.Bool.{Bool, true, false, _&&_, and-eq-true-iff}
 use mathlib.Core.List.{List, [], _∷_, _++_, append-assoc, append-nil, List·Memᴰ, List·Memᴰ·head, List·Memᴰ·tail}
-use Prim.Native.Nat.{ℕ, suc, _<_}
+use Prim.Native.Nat.{ℕ, suc, _≤_, _<_}
 use native.Mathlib.Omega.{arith}
+use lib.Dec.{leb}
 use lib.ListN.{length}
+use borrow.Author.Tests.{leb-true}
 use Rattle.tagged.specs.Choice.{choose}
 use Rattle.tagged.specs.Fields.{Placed}
 use Rattle.tagged.specs.Refusals.{firstBroken, orElse, refusedAt, firstRefusal}
+use Rattle.tagged.specs.Answers.{numberOf}
 use Rattle.tagged.specs.declared.answers.Rule.{Rule}
 use Rattle.tagged.specs.declared.answers.Answer.{Answer}
 use Rattle.tagged.specs.declared.answers.Answer.the-variants as Answer
@@ -128,32 +131,56 @@ module _ {A : Type 0} (breaks : List A → A → Bool) where
   pub broken-at : (earlier : List A) (l : List (Placed A)) (p : ℕ) → FirstBreak earlier l p → firstBroken breaks earlier l ≡ Found.At p
   broken-at earlier l p f = first-at earlier (f .stands) (f .broken) (f .others)
 
+-- rules in rising order of their numbers, the first not below `from`
+pub data Rising : ℕ → List Rule → Type 0 where
+  done : {from : ℕ} → Rising from []
+  rise : {from : ℕ} {r : Rule} {rules : List Rule} → from ≤ numberOf r → Rising (suc (numberOf r)) rules → Rising from (r ∷ rules)
+
+-- the same by a test
+abbrev pub inOrder : ℕ → List Rule → Bool
+inOrder from [] = true
+inOrder from (r ∷ rules) = leb from (numberOf r) && inOrder (suc (numberOf r)) rules
+
+pub order-rising : (from : ℕ) (rules : List Rule) → inOrder from rules ≡ true → Rising from rules
+order-rising from [] e = done
+order-rising from (r ∷ rules) e =
+    let h = and-eq-true-iff (leb from (numberOf r)) (inOrder (suc (numberOf r)) rules) .0 e in
+    rise (leb-true from (numberOf r) (h .0)) (order-rising (suc (numberOf r)) rules (h .1))
+
+pub rising-above : {from : ℕ} {rules : List Rule} {k : Rule} → Rising from rules → List·Memᴰ k rules → from ≤ numberOf k
+rising-above (rise l r) (List·Memᴰ·head e) = rw e l
+rising-above (rise l r) (List·Memᴰ·tail m) = omega (arith, rising-above r m)
+
+first-least : {r j : Rule} {rules : List Rule} → Rising (suc (numberOf r)) rules → List·Memᴰ j (r ∷ rules) → numberOf r ≤ numberOf j
+first-least r (List·Memᴰ·head e) = omega (arith, ap numberOf e)
+first-least r (List·Memᴰ·tail m) = omega (arith, rising-above r m)
+
 -- the rules: acceptance where none has a place, else the first that has one
 module _ (broken : Rule → Found) where
   -- every rule of the list is broken nowhere
-  pub data Unbroken : List Rule → Type 0 where
-    none : Unbroken []
-    more : {r : Rule} {rules : List Rule} → broken r ≡ Found.Nowhere → Unbroken rules → Unbroken (r ∷ rules)
+  pub data NoneBroken : List Rule → Type 0 where
+    none : NoneBroken []
+    more : {r : Rule} {rules : List Rule} → broken r ≡ Found.Nowhere → NoneBroken rules → NoneBroken (r ∷ rules)
 
   -- of the list's rules, k is the first with a place, and that is p
   pub data FirstRule (k : Rule) (p : ℕ) : List Rule → Type 0 where
     here : {r : Rule} {rules : List Rule} → k ≡ r → broken k ≡ Found.At p → FirstRule k p (r ∷ rules)
     later : {r : Rule} {rules : List Rule} → broken r ≡ Found.Nowhere → FirstRule k p rules → FirstRule k p (r ∷ rules)
 
-  pub accepted-unbroken : (rules : List Rule) → firstRefusal broken rules ≡ Answer.Accepted → Unbroken rules
+  pub accepted-none : (rules : List Rule) → firstRefusal broken rules ≡ Answer.Accepted → NoneBroken rules
   unfolding firstRefusal
-  accepted-unbroken [] e = none
-  accepted-unbroken (r ∷ rules) e = go (broken r) refl e (accepted-unbroken rules)
+  accepted-none [] e = none
+  accepted-none (r ∷ rules) e = go (broken r) refl e (accepted-none rules)
     where
       go : (f : Found) → broken r ≡ f → refusedAt r f (firstRefusal broken rules) ≡ Answer.Accepted →
-          (firstRefusal broken rules ≡ Answer.Accepted → Unbroken rules) → Unbroken (r ∷ rules)
+          (firstRefusal broken rules ≡ Answer.Accepted → NoneBroken rules) → NoneBroken (r ∷ rules)
       go (Found.At p) h e ih = refused-not-accepted e
       go Found.Nowhere h e ih = more h (ih e)
 
-  pub unbroken-accepted : {rules : List Rule} → Unbroken rules → firstRefusal broken rules ≡ Answer.Accepted
+  pub none-accepted : {rules : List Rule} → NoneBroken rules → firstRefusal broken rules ≡ Answer.Accepted
   unfolding firstRefusal
-  unbroken-accepted none = refl
-  unbroken-accepted (more h u) = rw h (unbroken-accepted u)
+  none-accepted none = refl
+  none-accepted (more h u) = rw h (none-accepted u)
 
   pub refused-first : (rules : List Rule) {k : Rule} {p : ℕ} → firstRefusal broken rules ≡ Answer.Refused k p → FirstRule k p rules
   unfolding firstRefusal
@@ -174,19 +201,41 @@ module _ (broken : Rule → Found) where
   first-refused (later h f) = rw h (first-refused f)
 
   -- the same by membership
-  pub unbroken-each : {rules : List Rule} → Unbroken rules → (k : Rule) → List·Memᴰ k rules → broken k ≡ Found.Nowhere
-  unbroken-each (more h u) k (List·Memᴰ·head e) = rw e h
-  unbroken-each (more h u) k (List·Memᴰ·tail m) = unbroken-each u k m
+  pub none-each : {rules : List Rule} → NoneBroken rules → (k : Rule) → List·Memᴰ k rules → broken k ≡ Found.Nowhere
+  none-each (more h u) k (List·Memᴰ·head e) = rw e h
+  none-each (more h u) k (List·Memᴰ·tail m) = none-each u k m
 
-  pub each-unbroken : (rules : List Rule) → ((k : Rule) → List·Memᴰ k rules → broken k ≡ Found.Nowhere) → Unbroken rules
-  each-unbroken [] h = none
-  each-unbroken (r ∷ rules) h = more (h r (List·Memᴰ·head refl)) (each-unbroken rules (λ k m. h k (List·Memᴰ·tail m)))
+  pub each-none : (rules : List Rule) → ((k : Rule) → List·Memᴰ k rules → broken k ≡ Found.Nowhere) → NoneBroken rules
+  each-none [] h = none
+  each-none (r ∷ rules) h = more (h r (List·Memᴰ·head refl)) (each-none rules (λ k m. h k (List·Memᴰ·tail m)))
 
   pub first-split : {k : Rule} {p : ℕ} {rules : List Rule} → FirstRule k p rules →
-      (before after : List Rule) × (rules ≡ before ++ (k ∷ after)) × Unbroken before × (broken k ≡ Found.At p)
+      (before after : List Rule) × (rules ≡ before ++ (k ∷ after)) × NoneBroken before × (broken k ≡ Found.At p)
   first-split (here {rules = rules} same h) = ([], rules, rw same, none, h)
   first-split (later {r} h f) = let s = first-split f in (r ∷ s .0, s .1, ap (λ l. r ∷ l) (s .2), more h (s .3), s .4)
 
-  pub split-first : {k : Rule} {p : ℕ} (before after : List Rule) → Unbroken before → broken k ≡ Found.At p → FirstRule k p (before ++ (k ∷ after))
+  pub split-first : {k : Rule} {p : ℕ} (before after : List Rule) → NoneBroken before → broken k ≡ Found.At p → FirstRule k p (before ++ (k ∷ after))
   split-first [] after u h = here refl h
   split-first (r ∷ before) after (more n u) h = later n (split-first before after u h)
+
+  -- the same by the rules' numbers, where the list has them in rising order
+  pub first-lower : {k : Rule} {p from : ℕ} {rules : List Rule} → Rising from rules → FirstRule k p rules →
+      (j : Rule) → List·Memᴰ j rules → numberOf j < numberOf k → broken j ≡ Found.Nowhere
+  first-lower (rise l r) (here same h) j m less = absurd (omega (arith, ap numberOf same, first-least r m))
+  first-lower (rise l r) (later h f) j (List·Memᴰ·head e) less = rw e h
+  first-lower (rise l r) (later h f) j (List·Memᴰ·tail m) less = first-lower r f j m less
+
+  pub lower-first : {k : Rule} {p from : ℕ} {rules : List Rule} → Rising from rules → List·Memᴰ k rules → broken k ≡ Found.At p →
+      ((j : Rule) → List·Memᴰ j rules → numberOf j < numberOf k → broken j ≡ Found.Nowhere) → FirstRule k p rules
+  lower-first (rise l r) (List·Memᴰ·head e) h n = here e h
+  lower-first {rules = q ∷ rules} (rise l r) (List·Memᴰ·tail m) h n =
+      later (n q (List·Memᴰ·head refl) (rising-above r m)) (lower-first r m h (λ j i less. n j (List·Memᴰ·tail i) less))
+
+  -- the rule is in the list, and has the place
+  pub first-broken : {k : Rule} {p : ℕ} {rules : List Rule} → FirstRule k p rules → broken k ≡ Found.At p
+  first-broken (here same h) = h
+  first-broken (later h f) = first-broken f
+
+  pub first-member : {k : Rule} {p : ℕ} {rules : List Rule} → FirstRule k p rules → List·Memᴰ k rules
+  first-member (here same h) = List·Memᴰ·head same
+  first-member (later h f) = List·Memᴰ·tail (first-member f)

@@ -11,5 +11,6 @@ pub mod Stands
 pub mod Files
 pub mod Names
 pub mod Declarations
+pub mod DeclarationPhrases
 pub mod Rows
 pub mod Cycles

@@ -15,6 +15,10 @@ use Rattle.tagged.specs.Files as files
 use Rattle.tagged.specs.Names as names
 use Rattle.tagged.specs.Refusals as refusals
 use Rattle.tagged.specs.Declarations as declarations
+use Rattle.tagged.specs.Declarations.{input, register}
+use Rattle.tagged.specs.declared.sorts.Kind.the-variants as Kind
+use Rattle.words.specs.declared.TwoOperand.the-variants as two-operand
+use Rattle.verilog.specs.Tree.{constant, variable, fixedBit, chosenBit, two, Statement, assign, assignBit, ifElse, end, _then_, Module}
 use Rattle.tagged.specs.declared.answers.Answer.{Answer}
 use Rattle.tagged.specs.declared.answers.Answer.the-variants as Answer
 use Rattle.verilog.specs.Form as form
@@ -45,6 +49,13 @@ counter =
     ∷ 0x04 ∷ 0x00 ∷ 0x20 ∷ 0x14 ∷ 0x00 ∷ 0x1D ∷ 0x21 ∷ 0x00 ∷ 0x01 ∷ 0x00 ∷ 0x17 ∷ 0x00 ∷ 0x13 ∷ 0x11 ∷ 0x00 ∷ 0x10 ∷ 0x01
     ∷ 0x28 ∷ 0x00 ∷ 0x0C ∷ 0x21 ∷ 0x00 ∷ 0x01 ∷ 0x01 ∷ 0x20 ∷ 0x00 ∷ 0x05 ∷ 0x04 ∷ 0x00 ∷ 0x00 ∷ 0x00 ∷ 0x01 ∷ 0x17 ∷ 0x00 ∷ 0x00 ∷ []
 
+-- input c of 1 bit and register a of 4; its process stands at 17, its first statement at 20
+abbrev of : Statement → Module
+of s = record { declarations = input 1 (0x63 ∷ []) ∷ register 4 0 (0x61 ∷ []) ∷ []; processes = (s then end) ∷ [] }
+
+abbrev checking : Statement → ℕ
+checking s = answering (treeAnswer 3 (of s))
+
 pub table : List Case
 table =
     case (answering (moduleAnswer counter)) 0
@@ -53,6 +64,19 @@ table =
     ∷ case (running (cycle.moduleCycle (reading.moduleIn counter) (1 ∷ 15 ∷ []))) 10001
     ∷ case (running (cycle.moduleCycle (reading.moduleIn counter) (0 ∷ 7 ∷ []))) 10700
     ∷ case (running (cycle.moduleCycle (reading.moduleIn counter) (0 ∷ []))) 999
+    -- places: a statement's own, its expression's, and an inner expression's
+    ∷ case (checking (assign Kind.Blocking 1 (variable 1))) 0
+    ∷ case (checking (assign Kind.Blocking 9 (variable 1))) 6020
+    ∷ case (checking (assign Kind.Blocking 0 (variable 0))) 6020
+    ∷ case (checking (assign Kind.Blocking 1 (variable 9))) 6024
+    ∷ case (checking (assignBit Kind.NonBlocking 1 0 (chosenBit 1 (variable 9)))) 6029
+    ∷ case (checking (assign Kind.Blocking 1 (constant 4 16))) 3024
+    ∷ case (checking (assign Kind.Blocking 1 (constant 4 15))) 0
+    ∷ case (checking (assign Kind.Blocking 1 (variable 0))) 7020
+    ∷ case (checking (assign Kind.Blocking 1 (two two-operand.Add (variable 1) (variable 0)))) 7024
+    ∷ case (checking (ifElse (variable 1) end end)) 7020
+    ∷ case (checking (assignBit Kind.Blocking 1 4 (variable 0))) 8020
+    ∷ case (checking (assignBit Kind.Blocking 1 3 (fixedBit 1 4))) 8025
     ∷ []
 
 pub cases : passes table ≡ true
