@@ -1,4 +1,4 @@
--- Laws and theorems of the translation: the netlist of an accepted module is accepted, and agrees with it.
+-- Laws and theorems of the translation: the netlist of an accepted module is accepted, and agrees with it. Demand3 stands at the end.
 pub mod Cases
 pub mod Passing
 pub mod Operands
@@ -12,3 +12,12 @@ pub mod AcceptedModule
 pub mod NetlistAccepted
 pub mod Largest
 pub mod Room
+pub mod Values
+pub mod Tracks
+pub mod Expressions
+pub mod Merging
+pub mod Statements
+pub mod Drives
+pub mod Agrees
+pub mod AgreesAlways
+pub mod Demand3
