@@ -1,4 +1,17 @@
--- Laws and theorems of modules: an accepted module is typed, and a typed one never stops and is quiet.
+-- Laws and theorems of modules: their bytes and trees give each other back; an accepted module is typed; a typed one never stops and is quiet.
+pub mod FrontLaws
+pub mod FrontLists
+pub mod AnyPlace
+pub mod SortChoices
+pub mod ExpressionBytes
+pub mod StatementPlaces
+pub mod StatementLists
+pub mod StatementBytes
+pub mod StatementStands
+pub mod ModuleBytes
+pub mod FineLaws
+pub mod FormFits
+pub mod WrittenBytes
 pub mod Typed
 pub mod FitLaws
 pub mod NeverStops

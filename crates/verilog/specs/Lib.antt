@@ -7,3 +7,4 @@ pub mod Rules
 pub mod Answer
 pub mod Cycle
 pub mod Quiet
+pub mod Fits
