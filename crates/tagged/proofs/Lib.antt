@@ -11,6 +11,7 @@ pub mod ChoiceLaws
 pub mod TestLaws
 pub mod RefusalLaws
 pub mod PlaceLaws
+pub mod RiseLaws
 pub mod NameLaws
 pub mod DeclarationLaws
 pub mod DeclarationBytes

@@ -17,5 +17,8 @@ pub mod FitLaws
 pub mod NeverStops
 pub mod WalkLaws
 pub mod AcceptedTyped
+pub mod RisingPlaces
+pub mod BreaksLaws
+pub mod RefusedExactly
 pub mod Stops
 pub mod Cases

@@ -8,3 +8,4 @@ pub mod Answer
 pub mod Cycle
 pub mod Quiet
 pub mod Fits
+pub mod Breaks
