@@ -2,6 +2,7 @@
 pub mod FieldRuns
 pub mod CellBytes
 pub mod NetlistBytes
+pub mod NextLaws
 pub mod PassLaws
 pub mod RulePasses
 pub mod Accepted

@@ -7,3 +7,4 @@ pub mod Answer
 pub mod Cycle
 pub mod Fits
 pub mod Breaks
+pub mod Run

@@ -7,7 +7,7 @@ use lib.ListN.{getD, drop}
 use Rattle.words.specs.declared.OneOperand.the-variants as one
 use Rattle.tagged.specs.Bytes.{fourOf}
 use Rattle.tagged.specs.Sorts.{onCell, isCell, isSort}
-use Rattle.tagged.specs.Fields.{passedBytes, Placed, readPlaced, unplaced}
+use Rattle.tagged.specs.Fields.{openOf, onField, passedBytes, Placed, readPlaced, unplaced}
 use Rattle.tagged.specs.Declarations.{afterDeclarations, declarationsIn}
 use Rattle.tagged.specs.declared.sorts.CellSort.{CellSort}
 use Rattle.tagged.specs.declared.sorts.CellSort.the-variants as CellSort
@@ -18,6 +18,10 @@ use Rattle.netlist.specs.declared.Operand.the-variants as Operand
 use Rattle.netlist.specs.declared.Cell.{Cell}
 use Rattle.netlist.specs.declared.Cell.the-variants as Cell
 use Rattle.netlist.specs.declared.Drive.{Drive}
+use Rattle.netlist.specs.declared.reading.NextCell.{NextCell}
+use Rattle.netlist.specs.declared.reading.NextCell.the-variants as NextCell
+use Rattle.netlist.specs.declared.reading.NextDrive.{NextDrive}
+use Rattle.netlist.specs.declared.reading.NextDrive.the-variants as NextDrive
 use Rattle.netlist.specs.Lists.{Netlist}
 use Rattle.netlist.specs.Form.{cellsStep}
 
@@ -41,8 +45,19 @@ cellIn CellSort.ChosenBit l = Cell.ChosenBit (getD l 0 0) (operandIn (drop 1 l))
 unfoldable pub cellRead : Sort → List ℕ → Cell
 cellRead s l = onCell s (λ c. cellIn c l) (Cell.One one.Not 0 (Operand.Constant 0 0))
 
+-- the drive in a payload
+abbrev pub driveIn : List ℕ → Drive
+driveIn l = record { variable = getD l 0 0; operand = operandIn (drop 1 l) }
+
 unfoldable pub driveRead : Sort → List ℕ → Drive
-driveRead s l = record { variable = getD l 0 0; operand = operandIn (drop 1 l) }
+driveRead s l = driveIn l
+
+-- the cell at the front, or the end of the list; the same for a drive
+unfoldable pub nextCellIn : List ℕ → NextCell
+nextCellIn l = onField (openOf 0 0 l) (λ s n. onCell s (λ c. NextCell.Cell c n) NextCell.Ended) NextCell.Ended
+
+unfoldable pub nextDriveIn : List ℕ → NextDrive
+nextDriveIn l = onField (openOf 0 0 l) (λ s n. cond (isSort Sort.Drive s) (NextDrive.Drive n) NextDrive.Ended) NextDrive.Ended
 
 -- the cells and the drives at the front of a list of bytes, each with its place
 unfoldable pub cellsAt : ℕ → List ℕ → List (Placed Cell)

@@ -1,4 +1,6 @@
 // Netlists: declarations, cells in order, and one drive for each register.
+pub mod reading;
+
 use words::OneOperand;
 use words::TwoOperand;
 
