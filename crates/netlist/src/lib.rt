@@ -1,5 +1,6 @@
 // Netlists: declarations, cells in order, and one drive for each register.
 pub mod reading;
+pub mod write;
 
 use words::OneOperand;
 use words::TwoOperand;
