@@ -2,6 +2,7 @@
 pub mod FieldRuns
 pub mod CellBytes
 pub mod NetlistBytes
+pub mod FormLaws
 pub mod PutLaws
 pub mod NextLaws
 pub mod PassLaws
