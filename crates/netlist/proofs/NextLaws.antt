@@ -25,21 +25,11 @@ use Rattle.netlist.specs.declared.reading.NextDrive.the-variants as Next
 use Rattle.netlist.specs.Reading.{cellIn, cellRead, driveIn, driveRead, nextCellIn, nextDriveIn, cellsAt, drivesAt}
 use Rattle.netlist.proofs.CellBytes.{cell-sort, same-sort}
 
--- the variants of a sort but a cell, and but a drive, as a match counts them
-abbrev butCell : List ℕ
-butCell = 0 ∷ 1 ∷ 2 ∷ 3 ∷ 4 ∷ 5 ∷ 6 ∷ 8 ∷ 9 ∷ 10 ∷ []
-
+-- the variants of a sort but a drive, as a match counts them
 abbrev butDrive : List ℕ
 butDrive = 0 ∷ 1 ∷ 2 ∷ 3 ∷ 4 ∷ 5 ∷ 6 ∷ 7 ∷ 9 ∷ 10 ∷ []
 
 -- a match that found another sort
-pub not-cell : (s : Sort) → OneOf butCell (enums.tagOf sorts.the-type s) → isCell s ≡ false
-not-cell s k = go (isCell s) refl
-  where
-    go : (t : Bool) → isCell s ≡ t → t ≡ false
-    go true e = let f = cell-sort s e in absurd (miss butCell 7 tt (subst (λ (s : Sort). OneOf butCell (enums.tagOf sorts.the-type s)) (f .1) k))
-    go false e = refl
-
 pub not-drive : (s : Sort) → OneOf butDrive (enums.tagOf sorts.the-type s) → isSort Sort.Drive s ≡ false
 not-drive s k = go (isSort Sort.Drive s) refl
   where

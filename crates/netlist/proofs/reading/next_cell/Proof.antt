@@ -1,7 +1,8 @@
 -- `netlist::reading::next_cell` meets its contract: each arm is the field that was opened. Assumes nothing.
 use mathlib.Core.Path.{sym}
 use Rattle.netlist.specs.Reading.{nextCellIn}
-use Rattle.netlist.proofs.NextLaws.{not-cell, other-than-cell}
+use Rattle.netlist.proofs.FormLaws.{not-cell}
+use Rattle.netlist.proofs.NextLaws.{other-than-cell}
 use borrow.Author.Needs.{needs}
 use Rattle.netlist.proofs.reading.next_cell.Statement.{statement}
 use Rattle.netlist.proofs.reading.next_cell.Tie as tie
