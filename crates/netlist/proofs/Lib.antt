@@ -5,6 +5,7 @@ pub mod NetlistBytes
 pub mod FormLaws
 pub mod PutLaws
 pub mod NextLaws
+pub mod RunWalks
 pub mod PassLaws
 pub mod RulePasses
 pub mod Accepted
@@ -12,6 +13,8 @@ pub mod RulesFit
 pub mod PassedRules
 pub mod RegisterLaws
 pub mod NeverStops
+pub mod NumberLaws
+pub mod CycleWritten
 pub mod BreakTests
 pub mod WholeTests
 pub mod RefusedExactly

@@ -241,12 +241,12 @@ drives-run base owner l e =
     )
 
 -- a step over declarations or over cells counts the same bytes anywhere
-declarations-anywhere : (base owner : ℕ) (l : List ℕ) (m : ℕ) → declarationsStep base owner l ≡ Step.Past m → declarationsStep 0 0 l ≡ Step.Past m
+pub declarations-anywhere : (base owner : ℕ) (l : List ℕ) (m : ℕ) → declarationsStep base owner l ≡ Step.Past m → declarationsStep 0 0 l ≡ Step.Past m
 unfolding declarationsStep
 declarations-anywhere base owner l m e =
     many-anywhere isDeclaration (fieldBy declarationBody) (field-anywhere declarationBody declaration-anywhere) 0 base owner 0 0 l m e
 
-cells-anywhere : (base owner : ℕ) (l : List ℕ) (m : ℕ) → cellsStep base owner l ≡ Step.Past m → cellsStep 0 0 l ≡ Step.Past m
+pub cells-anywhere : (base owner : ℕ) (l : List ℕ) (m : ℕ) → cellsStep base owner l ≡ Step.Past m → cellsStep 0 0 l ≡ Step.Past m
 unfolding cellsStep
 cells-anywhere base owner l m e = many-anywhere isCell (fieldBy cellBody) (field-anywhere cellBody cell-anywhere) 0 base owner 0 0 l m e
 
@@ -262,6 +262,12 @@ pub record PayloadRead (base : ℕ) (l : List ℕ) : Type 0 where
   pub declarations-placed : declarationsAt base l ≡ placedBy declarationBytes base (listsIn l .declarations)
   pub cells-placed : cellsAt (cellsBase base (listsIn l)) (afterDeclarations l) ≡ placedBy cellBytes (cellsBase base (listsIn l)) (listsIn l .cells)
   pub drives-placed : drivesAt (drivesBase base (listsIn l)) (afterCells l) ≡ placedBy driveBytes (drivesBase base (listsIn l)) (listsIn l .drives)
+  -- how many bytes the declarations take, and the cells
+  pub declared-bytes : cellsBase base (listsIn l) ≡ base + passedBytes (declarationsStep 0 0 l)
+  pub declared-within : passedBytes (declarationsStep 0 0 l) ≤ length l
+  pub celled : cellsStep 0 0 (afterDeclarations l) ≡ Step.Past (passedBytes (cellsStep 0 0 (afterDeclarations l)))
+  pub celled-bytes : drivesBase base (listsIn l) ≡ cellsBase base (listsIn l) + passedBytes (cellsStep 0 0 (afterDeclarations l))
+  pub celled-within : passedBytes (cellsStep 0 0 (afterDeclarations l)) ≤ length (afterDeclarations l)
 
 -- where the declarations take j bytes, and the cells k
 module _ (base owner : ℕ) (l : List ℕ) (h : AllBytes l) (j k : ℕ) (declared : declarationsStep base owner l ≡ Step.Past j)
@@ -337,6 +343,13 @@ module _ (base owner : ℕ) (l : List ℕ) (h : AllBytes l) (j k : ℕ) (declare
   base-drives : drivesBase base (listsIn l) ≡ base + j + k
   base-drives = let long = ap length (sym written-cells) ∙ length-take k (drop j l) in omega (arith, base-cells, listed-cells .within)
 
+  -- their bytes counted anywhere
+  passed-declarations : passedBytes (declarationsStep 0 0 l) ≡ j
+  passed-declarations = ap passedBytes (declarations-anywhere base owner l j declared)
+
+  past-cells : cellsStep 0 0 (afterDeclarations l) ≡ Step.Past k
+  past-cells = ap (cellsStep 0 0) from-cells ∙ cells-anywhere (base + j) owner (drop j l) k celled
+
   pub lists-read : PayloadRead base l
   unfolding listsIn cellsAt drivesAt declarationsAt
   lists-read = record {
@@ -352,6 +365,11 @@ module _ (base owner : ℕ) (l : List ℕ) (h : AllBytes l) (j k : ℕ) (declare
         ∙ ap₂ (λ (b : ℕ) (cs : List Cell). placedBy cellBytes b cs) (sym base-cells) the-cells;
     drives-placed = ap₂ (λ (b : ℕ) (r : List ℕ). drivesAt b r) base-drives from-drives ∙ listed-drives .places
         ∙ ap₂ (λ (b : ℕ) (vs : List Drive). placedBy driveBytes b vs) (sym base-drives) the-drives;
+    declared-bytes = base-cells ∙ ap (λ (n : ℕ). base + n) (sym passed-declarations);
+    declared-within = omega (arith, passed-declarations, listed-declarations .within);
+    celled = past-cells ∙ ap (λ (s : Step). Step.Past (passedBytes s)) (sym past-cells);
+    celled-bytes = omega (arith, base-cells, base-drives, ap passedBytes past-cells);
+    celled-within = omega (arith, ap passedBytes past-cells, listed-cells .within, ap length from-cells);
   }
 
 pub payload-read : (base owner : ℕ) (l : List ℕ) → AllBytes l → thenBy declarationsStep (thenBy cellsStep drivesJudge) base owner l ≡ Judged.Fine → PayloadRead base l
@@ -388,7 +406,7 @@ pub record FileRead (file : List ℕ) : Type 0 where
   pub payload : PayloadRead 3 (drop 3 file)
 
 -- a body without a fault is a netlist's
-body-fine : (at : ℕ) (s : Sort) (l : List ℕ) → netlistBody at s l ≡ Judged.Fine
+pub body-fine : (at : ℕ) (s : Sort) (l : List ℕ) → netlistBody at s l ≡ Judged.Fine
     → (isSort Sort.Netlist s ≡ true) × (thenBy declarationsStep (thenBy cellsStep drivesJudge) (at + 3) at l ≡ Judged.Fine)
 unfolding netlistBody
 body-fine at s l e = go (isSort Sort.Netlist s) refl e

@@ -44,7 +44,7 @@ use Rattle.netlist.proofs.RegisterLaws.{registers-marked}
 use Rattle.tagged.proofs.CycleLaws.{fits-set, Steps, Runs, cycles-run}
 
 -- values that have these widths and fit them
-data Shaped : List ℕ → List Value → Type 0 where
+pub data Shaped : List ℕ → List Value → Type 0 where
   empty : Shaped [] []
   with : {w : ℕ} {x : Value} {widths : List ℕ} {values : List Value} → x .width ≡ w → x .number < 2 ^ w → Shaped widths values → Shaped (w ∷ widths) (x ∷ values)
 
@@ -52,10 +52,10 @@ shaped-length : {widths : List ℕ} {values : List Value} → Shaped widths valu
 shaped-length empty = refl
 shaped-length (with e h s) = ap suc (shaped-length s)
 
-abbrev noValue : Value
+abbrev pub noValue : Value
 noValue = record { width = 0; number = 0 }
 
-record HasWidth (w : ℕ) (x : Value) : Type 0 where
+pub record HasWidth (w : ℕ) (x : Value) : Type 0 where
   pub wide : x .width ≡ w
   pub small : x .number < 2 ^ w
 
@@ -67,14 +67,14 @@ shaped-at empty i h = absurd (omega arith)
 shaped-at (with e l s) zero h = record { wide = e; small = l }
 shaped-at (with e l s) (suc i) h = shaped-at s i (omega arith)
 
-shaped-more : {widths : List ℕ} {values : List Value} {w : ℕ} {x : Value} → Shaped widths values → HasWidth w x → Shaped (widths ++ (w ∷ [])) (values ++ (x ∷ []))
+pub shaped-more : {widths : List ℕ} {values : List Value} {w : ℕ} {x : Value} → Shaped widths values → HasWidth w x → Shaped (widths ++ (w ∷ [])) (values ++ (x ∷ []))
 shaped-more empty h = with (h .wide) (h .small) empty
 shaped-more (with e l s) h = with e l (shaped-more s h)
 
 -- one cycle of these declarations from a row that fits, with the cells so far
 module _ (ds : List Declaration) (row : List ℕ) (fits : allFit (map widthOf ds) row ≡ true) where
   -- an operand has a value of its stated width that fits it
-  record OperandRuns (values : List Value) (o : Operand) : Type 0 where
+  pub record OperandRuns (values : List Value) (o : Operand) : Type 0 where
     pub value : Value
     pub runs : operandValue ds row values o ≡ got value
     pub has : HasWidth (operandWidth o) value
@@ -109,11 +109,11 @@ module _ (ds : List Declaration) (row : List ℕ) (fits : allFit (map widthOf ds
       }
 
   -- each of some operands
-  data AllRun (values : List Value) : List Operand → Type 0 where
+  pub data AllRun (values : List Value) : List Operand → Type 0 where
     end : AllRun values []
     and : {o : Operand} {l : List Operand} → OperandRuns values o → AllRun values l → AllRun values (o ∷ l)
 
-  all-run : (cells : List Cell) {values : List Value} → Shaped (map cellWidth cells) values → (l : List Operand) →
+  pub all-run : (cells : List Cell) {values : List Value} → Shaped (map cellWidth cells) values → (l : List Operand) →
       someOperand operandValueBroken l ≡ false → someOperand (operandMissing ds cells) l ≡ false → someOperand (operandUnlike ds cells) l ≡ false → AllRun values l
   all-run cells s [] v m u = end
   all-run cells s (o ∷ l) v m u =
@@ -123,12 +123,12 @@ module _ (ds : List Declaration) (row : List ℕ) (fits : allFit (map widthOf ds
       and (operand-runs cells s o (v′ .0) (m′ .0) (u′ .0)) (all-run cells s l (v′ .1) (m′ .1) (u′ .1))
 
   -- a cell has a value of its width that fits it
-  record CellRuns (values : List Value) (c : Cell) : Type 0 where
+  pub record CellRuns (values : List Value) (c : Cell) : Type 0 where
     pub value : Value
     pub runs : cellValue ds row values c ≡ got value
     pub has : HasWidth (cellWidth c) value
 
-  cell-runs : {values : List Value} (c : Cell) → AllRun values (operandsIn (cellSlots c)) → cellUnlike c ≡ false → cellOutside c ≡ false → CellRuns values c
+  pub cell-runs : {values : List Value} (c : Cell) → AllRun values (operandsIn (cellSlots c)) → cellUnlike c ≡ false → cellOutside c ≡ false → CellRuns values c
   unfolding cellValue cellUnlike cellOutside
   cell-runs (Cell.One op w a) (and p end) u b =
       let like : eqb w (oneWidth op (operandWidth a)) ≡ true = not-false _ u in
@@ -213,7 +213,7 @@ module _ (ds : List Declaration) (row : List ℕ) (fits : allFit (map widthOf ds
     pub shaped : Shaped (map cellWidth (done ++ cells)) all
 
   -- the first place of a rule among the cells that follow
-  abbrev broken : Rule → List Cell → ℕ → List Cell → Found
+  abbrev pub broken : Rule → List Cell → ℕ → List Cell → Found
   broken rule done base cells = firstBroken (cellBreaks rule ds) done (placedBy cellBytes base cells)
 
   cells-run : (done : List Cell) {values : List Value} (base : ℕ) (cells : List Cell) → Shaped (map cellWidth done) values →

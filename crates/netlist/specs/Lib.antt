@@ -8,3 +8,4 @@ pub mod Cycle
 pub mod Fits
 pub mod Breaks
 pub mod Run
+pub mod Numbers

@@ -1,4 +1,5 @@
 // Netlists: declarations, cells in order, and one drive for each register.
+pub mod cycle;
 pub mod form;
 pub mod reading;
 pub mod write;

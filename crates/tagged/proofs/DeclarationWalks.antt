@@ -19,11 +19,11 @@ use Rattle.tagged.proofs.ByteLaws.{rest}
 use Rattle.tagged.proofs.DeclarationLaws.{name-in, next-whole, next-at, next-ended, next-in, none-in}
 
 -- the code steps over a header and then a payload, the list over both at once
-step : (at n : ℕ) (l : List ℕ) → drop (n + 3) (drop at l) ≡ drop (at + 3 + n) l
+pub step : (at n : ℕ) (l : List ℕ) → drop (n + 3) (drop at l) ≡ drop (at + 3 + n) l
 step at n l = let e : at + (n + 3) ≡ at + 3 + n = omega arith in rw (drop-drop, e)
 
 -- the payload as the code takes it from the whole list
-payload : (at n : ℕ) (l : List ℕ) → take n (drop (at + 3) l) ≡ take n (drop 3 (drop at l))
+pub payload : (at n : ℕ) (l : List ℕ) → take n (drop (at + 3) l) ≡ take n (drop 3 (drop at l))
 payload at n l = rw drop-drop
 
 -- the declaration that stands at the index `at`

@@ -1,19 +1,22 @@
 -- Rows: what is written is read back and what is read is written back; a row that fits has a number below its bound for each width;
 -- and one turn of each loop over a row. By induction on the row. Assumes nothing.
 use mathlib.Core.Path.{_≡_, refl, sym, ap, ap₂, _∙_}
-use mathlib.Core.Bool.{Bool, true, false, _&&_, false≢true, and-false, and-eq-true-iff}
+use mathlib.Core.Bool.{Bool, true, false, cond, _&&_, false≢true, and-false, and-eq-true-iff}
 use mathlib.Core.List.{List, [], _∷_, _++_, append-assoc, append-nil}
 use Prim.Native.Nat.{ℕ, zero, suc, _+_, _-_, _*_, _^_, _≤_, _<_}
 use native.Mathlib.Nat.{sub-zero}
 use native.Mathlib.Numerals.{add-one}
 use native.Mathlib.Omega.{arith}
+use lib.Dec.{eqb}
 use lib.ListN.{length, getD, take, drop, set, drop-of-length-le}
 use lib.Seq.{sets, take-all, take-suc, take-suc-set, drop-cons, drop-drop}
-use borrow.Author.Tests.{ltb-true, eq-eqb, ne-eqb}
+use borrow.Author.Tests.{ltb-true, eqb-true, eq-eqb, ne-eqb}
 use Rattle.words.specs.Widths.{fitsWidth}
 use Rattle.tagged.specs.Bytes.{AllBytes, fourBytes, fourOf, Wrote}
 use Rattle.tagged.specs.Fields.{allBytesOf}
-use Rattle.tagged.specs.Rows.{rowBytes, rowNumbers, allFit, rowsFit}
+use Rattle.tagged.specs.Rows.{rowBytes, rowNumbers, allFit, rowsFit, rowAnswer}
+use Rattle.tagged.specs.declared.answers.Rule.the-variants as Rule
+use Rattle.tagged.specs.declared.answers.Answer.the-variants as Answer
 use Rattle.tagged.proofs.ByteLaws.{bytes-four, four-front, bytes-drop}
 use Rattle.tagged.proofs.WriteLaws.{wrote-then}
 
@@ -27,6 +30,13 @@ pub bytes-length : (values : List ℕ) → length (rowBytes values) ≡ 4 * leng
 unfolding allBytesOf fourBytes
 bytes-length [] = refl
 bytes-length (v ∷ values) = omega (arith, bytes-length values)
+
+-- the first numbers of more
+pub numbers-front : (n m : ℕ) (row : List ℕ) → n ≤ m → take n (rowNumbers m row) ≡ rowNumbers n row
+unfolding rowNumbers
+numbers-front zero m row h = refl
+numbers-front (suc n) zero row h = absurd (omega arith)
+numbers-front (suc n) (suc m) row h = ap (λ (l : List ℕ). fourOf row ∷ l) (numbers-front n m (drop 4 row) (omega arith))
 
 -- what is written is read back
 pub row-back : (values after : List ℕ) → ((i : ℕ) → getD values i 0 < 2 ^ 32) → rowNumbers (length values) (rowBytes values ++ after) ≡ values
@@ -100,6 +110,23 @@ write-turn values at h w v = rw (add-one, take-suc values at 0 h, bytes-append, 
 pub write-done : {o o₁ : List ℕ} {i i₁ : ℕ} (values : List ℕ) (at : ℕ) → length values ≤ at →
     Wrote o i (rowBytes (take at values)) o₁ i₁ → o₁ ≡ sets o i (rowBytes values)
 write-done values at h w = rw (take-all at values h) at (w .list)
+
+-- accepted rows: their lengths, and numbers that fit
+pub record RowAccepted (widths row : List ℕ) (nextLength : ℕ) : Type 0 where
+  pub long : length row ≡ 4 * length widths
+  pub next : nextLength ≡ 4 * length widths
+  pub fits : allFit widths (rowNumbers (length widths) row) ≡ true
+
+pub row-accepted : (widths row : List ℕ) (nextLength : ℕ) → rowAnswer widths row nextLength ≡ Answer.Accepted → RowAccepted widths row nextLength
+unfolding rowAnswer rowsFit
+row-accepted widths row nextLength e = go (rowsFit widths row nextLength) refl e
+  where
+    go : (t : Bool) → rowsFit widths row nextLength ≡ t → cond t Answer.Accepted (Answer.Refused Rule.Row 0) ≡ Answer.Accepted → RowAccepted widths row nextLength
+    go false p q = absurd (let z : _≡_ {A = ℕ} 0 1 = cc in omega arith)
+    go true p q =
+        let both = and-eq-true-iff (eqb (length row) (4 * length widths) && eqb nextLength (4 * length widths)) _ .0 p in
+        let each = and-eq-true-iff (eqb (length row) (4 * length widths)) _ .0 (both .0) in
+        record { long = eqb-true _ _ (each .0); next = eqb-true _ _ (each .1); fits = both .1 }
 
 -- testing: both lengths
 pub fits-start : (widths row : List ℕ) (nextLength : ℕ) → length row ≡ 4 * length widths → nextLength ≡ 4 * length widths →

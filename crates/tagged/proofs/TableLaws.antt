@@ -39,7 +39,8 @@ table-more zero (y ∷ l) x = refl
 table-more (suc n) [] x = refl
 table-more (suc n) (y ∷ l) x = ap (λ (z : List ℕ). y ∷ z) (table-more n l x)
 
-mapped : (f : Declaration → ℕ) (l : List Declaration) (d : Declaration) → map f (l ++ (d ∷ [])) ≡ map f l ++ (f d ∷ [])
+-- the numbers of a list and of one more
+pub mapped : {A : Type 0} (f : A → ℕ) (l : List A) (d : A) → map f (l ++ (d ∷ [])) ≡ map f l ++ (f d ∷ [])
 mapped f [] d = refl
 mapped f (c ∷ l) d = ap (λ (y : List ℕ). f c ∷ y) (mapped f l d)
 

@@ -125,7 +125,7 @@ pub fn next_declaration(part: &[u8]) -> Next
 }
 
 // The payload, of so many bytes, of the field at an index of a list.
-fn payload_at(list: &[u8], at: usize, size: usize) -> &[u8]
+pub fn payload_at(list: &[u8], at: usize, size: usize) -> &[u8]
     requires { ⌜ (at + 3 + size ≤ length (now list)) × (length (now list) ≤ 2 ^ 40) ⌝ }
     ensures { λ r. ⌜ now r ≡ take size (drop (at + 3) (now (list .entry))) ⌝ }
 {
