@@ -3,6 +3,7 @@ pub mod FrontLaws
 pub mod FrontLists
 pub mod AnyPlace
 pub mod SortChoices
+pub mod FormLaws
 pub mod ExpressionBytes
 pub mod StatementPlaces
 pub mod StatementLists

@@ -1,1 +1,2 @@
-// Modules of the Verilog subset. Their definitions stand in specs/; the code that reads, checks and runs them is to come.
+// Modules of the Verilog subset. Their definitions stand in specs/; the code that checks and runs them is to come, but for refusal 2.
+pub mod form;
