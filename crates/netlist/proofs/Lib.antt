@@ -5,6 +5,9 @@ pub mod NetlistBytes
 pub mod FormLaws
 pub mod PutLaws
 pub mod NextLaws
+pub mod RuleLaws
+pub mod RuleWalks
+pub mod RuleParts
 pub mod RunWalks
 pub mod PassLaws
 pub mod RulePasses

@@ -3,6 +3,7 @@ pub mod Lists
 pub mod Form
 pub mod Reading
 pub mod Rules
+pub mod RuleTests
 pub mod Answer
 pub mod Cycle
 pub mod Fits

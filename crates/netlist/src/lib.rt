@@ -2,6 +2,7 @@
 pub mod cycle;
 pub mod form;
 pub mod reading;
+pub mod rules;
 pub mod write;
 
 use words::OneOperand;
