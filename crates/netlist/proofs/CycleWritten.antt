@@ -56,6 +56,14 @@ sets-all o bs e =
 pub part-short : (l : List ℕ) (k : ℕ) (r : List ℕ) → r ≡ drop k l → length l ≤ longestNetlist → length r ≤ longestNetlist
 part-short l k r e h = omega (arith, ap length e, length-drop k l)
 
+-- an accepted file has at most 64 variables
+pub few-declared : (file : List ℕ) → netlistAnswer file ≡ Answer.Accepted → length (netlistIn file .declarations) ≤ 64
+few-declared file accepted =
+    let n = netlistIn file in
+    let rules = lists-pass 3 n (answer-parts file accepted .lists) in
+    let count : RulePasses n Rule.Count = rules .1 .1 .0 in
+    declarations-count (n .declarations) (count .declarations)
+
 -- one cycle of a file that is accepted, from a row that fits
 module _ (file row next : List ℕ) (accepted : netlistAnswer file ≡ Answer.Accepted) (rows : rowAnswer (fileWidths file) row (length next) ≡ Answer.Accepted) where
   abbrev n : Netlist
@@ -74,10 +82,7 @@ module _ (file row next : List ℕ) (accepted : netlistAnswer file ≡ Answer.Ac
   file-short = file-fits longestNetlist file (parts .fits) .short
 
   few-variables : length (n .declarations) ≤ 64
-  few-variables =
-      let rules = lists-pass 3 n (parts .lists) in
-      let count : RulePasses n Rule.Count = rules .1 .1 .0 in
-      declarations-count (n .declarations) (count .declarations)
+  few-variables = few-declared file accepted
 
   few-cells : length (n .cells) ≤ 1024
   few-cells =

@@ -18,6 +18,7 @@ pub mod RegisterLaws
 pub mod NeverStops
 pub mod NumberLaws
 pub mod CycleWritten
+pub mod CallLaws
 pub mod BreakTests
 pub mod WholeTests
 pub mod RefusedExactly
