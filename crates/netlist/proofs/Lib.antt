@@ -19,6 +19,7 @@ pub mod NeverStops
 pub mod NumberLaws
 pub mod CycleWritten
 pub mod CallLaws
+pub mod OneResult
 pub mod BreakTests
 pub mod WholeTests
 pub mod RefusedExactly
