@@ -1,6 +1,6 @@
 -- A netlist without refusal, a predicate on lists, is one whose bytes are accepted; and an accepted file is the bytes of such a netlist.
 -- Refusal 1 by the lengths of what is written, refusal 2 by the laws of NetlistBytes; the rules on lists stand on both sides.
-use mathlib.Core.Path.{_≡_, refl, sym, ap, _∙_, subst}
+use mathlib.Core.Path.{_≡_, sym, ap, _∙_, subst}
 use mathlib.Core.List.{List, [], append-nil}
 use Prim.Native.Nat.{ℕ, _+_, _≤_}
 use native.Mathlib.Omega.{arith}
@@ -10,7 +10,6 @@ use Rattle.tagged.specs.Bytes.{AllBytes}
 use Rattle.tagged.specs.Sorts.{tagOf}
 use Rattle.tagged.specs.Fields.{fieldBytes, sizeOf}
 use Rattle.tagged.specs.Files.{fileAnswer}
-use Rattle.tagged.specs.Refusals.{afterForm, afterAnswer}
 use Rattle.tagged.specs.declared.sorts.Sort.the-variants as Sort
 use Rattle.tagged.specs.declared.fields.Step.{Step}
 use Rattle.tagged.specs.declared.fields.Step.the-variants as Step
@@ -22,7 +21,8 @@ use Rattle.netlist.specs.Form.{netlistPayload, netlistBytes, netlistForm
 use Rattle.netlist.specs.Reading.{netlistIn}
 use Rattle.netlist.specs.Answer.{listsAnswer, netlistAnswer}
 use Rattle.netlist.specs.Fits.{FitsBytes, WithoutRefusal}
-use Rattle.netlist.proofs.NetlistBytes.{form-written, lists-back, FileFits, file-fits, fits-file, written-read}
+use Rattle.tagged.proofs.FileLaws.{FileFits, file-fits, fits-file, accepted-parts}
+use Rattle.netlist.proofs.NetlistBytes.{form-written, lists-back, written-read}
 
 -- the parts of an accepted file
 pub record AnswerParts (file : List ℕ) : Type 0 where
@@ -33,13 +33,9 @@ pub record AnswerParts (file : List ℕ) : Type 0 where
 
 pub answer-parts : (file : List ℕ) → netlistAnswer file ≡ Answer.Accepted → AnswerParts file
 unfolding netlistAnswer
-answer-parts file e = go (fileAnswer longestNetlist file) refl (netlistForm file) refl e
-  where
-    go : (a : Answer) → fileAnswer longestNetlist file ≡ a → (s : Step) → netlistForm file ≡ s
-        → afterAnswer a (afterForm s (listsAnswer 3 (netlistIn file))) ≡ Answer.Accepted → AnswerParts file
-    go Answer.Accepted p (Step.Past m) q r = record { fits = p; bytes = m; form = q; lists = r }
-    go Answer.Accepted p (Step.Refused place) q r = absurd (let z : _≡_ {A = ℕ} 0 1 = cc in omega arith)
-    go (Answer.Refused rule place) p s q r = absurd (let z : _≡_ {A = ℕ} 0 1 = cc in omega arith)
+answer-parts file e =
+    let p = accepted-parts (fileAnswer longestNetlist file) (netlistForm file) (listsAnswer 3 (netlistIn file)) e in
+    record { fits = p .1; bytes = p .0; form = p .2; lists = p .3 }
 
 pub parts-answer : (file : List ℕ) → AnswerParts file → netlistAnswer file ≡ Answer.Accepted
 unfolding netlistAnswer

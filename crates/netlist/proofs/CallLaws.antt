@@ -17,11 +17,11 @@ use Rattle.tagged.specs.declared.answers.Answer.the-variants as Answer
 use Rattle.tagged.specs.declared.fields.Step.{Step}
 use Rattle.tagged.specs.declared.fields.Step.the-variants as Step
 use Rattle.tagged.proofs.FieldLaws.{field-passed}
+use Rattle.tagged.proofs.FileLaws.{file-fits}
 use Rattle.netlist.specs.Form.{netlistForm, netlistBody}
 use Rattle.netlist.specs.Reading.{netlistIn, listsIn}
 use Rattle.netlist.specs.Answer.{netlistAnswer, listsAnswer}
 use Rattle.netlist.specs.Run.{fileWidths, cycleOf, rowLeft, runAnswer, runLeaves}
-use Rattle.netlist.proofs.NetlistBytes.{file-fits}
 use Rattle.netlist.proofs.Accepted.{answer-parts}
 use Rattle.netlist.proofs.CycleWritten.{few-declared}
 use Rattle.netlist.proofs.RuleLaws.{widths-known}

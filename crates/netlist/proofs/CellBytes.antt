@@ -4,15 +4,15 @@ use mathlib.Core.Bool.{Bool, true, false, cond, true≢false}
 use mathlib.Core.List.{List, [], _∷_, _++_, append-nil}
 use Prim.Native.Nat.{ℕ, zero, suc, _+_, _*_, _≤_, _<_}
 use native.Mathlib.Omega.{arith}
-use lib.Dec.{lit<, eqb, leb, ltb}
+use lib.Dec.{lit<, eqb, leb}
 use lib.ListN.{length, getD, take, drop, length-append, take-append-drop}
 use lib.Seq.{drop-drop, drop-at}
-use borrow.Author.Tests.{eqb-true, eqb-false, leb-true, ltb-false, le-ltb, le-leb, eq-eqb}
+use borrow.Author.Tests.{eqb-true, eqb-false, leb-true, le-leb}
 use Rattle.words.specs.declared.OneOperand.the-variants as one
 use Rattle.words.specs.declared.TwoOperand.the-variants as two
 use Rattle.tagged.specs.Bytes.{AllBytes, fourBytes, fourOf}
-use Rattle.tagged.specs.Sorts.{sortOf, tagOf, isCell, isSort}
-use Rattle.tagged.specs.Fields.{fieldBytes, allBytesOf, Judge, fixedThen, ended}
+use Rattle.tagged.specs.Sorts.{tagOf, isCell, isSort}
+use Rattle.tagged.specs.Fields.{fieldBytes, allBytesOf, fixedThen, ended}
 use Rattle.tagged.specs.declared.sorts.CellSort.{CellSort}
 use Rattle.tagged.specs.declared.sorts.CellSort.the-variants as CellSort
 use Rattle.tagged.specs.declared.sorts.Sort.{Sort}
@@ -20,8 +20,11 @@ use Rattle.tagged.specs.declared.sorts.Sort.the-variants as Sort
 use Rattle.tagged.specs.declared.fields.Judged.{Judged}
 use Rattle.tagged.specs.declared.fields.Judged.the-variants as Judged
 use Rattle.tagged.proofs.ByteLaws.{front, bytes-four, four-front, four-lt, bytes-drop}
-use Rattle.tagged.proofs.SortLaws.{sort-back}
-use Rattle.tagged.proofs.FieldLaws.{ended-fine, ended-over}
+use Rattle.tagged.proofs.SortLaws.{is-itself}
+use Rattle.tagged.proofs.AllBytesLaws.{bytes-none, bytes-cons, four-bytes, field-bytes, all-bytes}
+use Rattle.tagged.proofs.JudgeLaws.{fixed-tells, ended-tells, sort-fine, fixed-written}
+use Rattle.tagged.proofs.RunLaws.{Known, sort-known}
+use Rattle.tagged.proofs.AnyPlace.{AnywhereBody, AnywhereJudge, fixed-anywhere, ended-anywhere}
 use Rattle.tagged.proofs.ListBytes.{Stands, field-length}
 use Rattle.netlist.specs.declared.Operand.{Operand}
 use Rattle.netlist.specs.declared.Operand.the-variants as Operand
@@ -32,7 +35,7 @@ use Rattle.netlist.specs.Lists.{Slot, operand, byte, cellSortOf, cellWid
 use Rattle.netlist.specs.Form.{operandBytes, slotBytes, cellBytes, driveBytes, Shape, anOperand, aByte, shapeOf, slotsBy, cellBody, driveBody}
 use Rattle.netlist.specs.Reading.{operandOf, operandIn, cellIn, cellRead, driveRead}
 use Rattle.netlist.specs.Fits.{Every, FitsByte, FitsFour, operandNumber, FitsOperand, FitsSlot, FitsCell, FitsDrive}
-use Rattle.netlist.proofs.FieldRuns.{bytes-none, bytes-cons, field-bytes, all-bytes, Anywhere}
+use Rattle.netlist.proofs.EveryLaws.{every-member}
 
 -- operands
 
@@ -93,14 +96,6 @@ operand-fits l h =
     kind-fits (getD l 0 0) (getD l 1 0) (fourOf (drop 2 l)) (h 1)
     (four-lt (getD (drop 2 l) 0 0) (getD (drop 2 l) 1 0) (getD (drop 2 l) 2 0) (getD (drop 2 l) 3 0) (rest 0) (rest 1) (rest 2) (rest 3))
 
-pub four-bytes : (n : ℕ) → AllBytes (fourBytes n)
-unfolding fourBytes
-four-bytes n zero = omega arith
-four-bytes n (suc zero) = omega arith
-four-bytes n (suc (suc zero)) = omega arith
-four-bytes n (suc (suc (suc zero))) = omega arith
-four-bytes n (suc (suc (suc (suc i)))) = bytes-none i
-
 pub operand-bytes : (o : Operand) → FitsOperand o → AllBytes (operandBytes o)
 unfolding operandBytes
 operand-bytes (Operand.Constant w n) h = bytes-cons 0 (w ∷ fourBytes n) (lit< tt) (bytes-cons w (fourBytes n) (h .0) (four-bytes n))
@@ -120,25 +115,10 @@ slotsIn [] l = []
 slotsIn (anOperand ∷ s) l = operand (operandIn l) ∷ slotsIn s (drop 6 l)
 slotsIn (aByte ∷ s) l = byte (getD l 0 0) ∷ slotsIn s (drop 1 l)
 
--- what a judge without a fault has seen
-pub ended-empty : (base owner : ℕ) (l : List ℕ) → ended base owner l ≡ Judged.Fine → [] ≡ l
+-- nothing is left where a payload has ended
+ended-empty : (base owner : ℕ) (l : List ℕ) → ended base owner l ≡ Judged.Fine → [] ≡ l
 ended-empty base owner [] e = refl
-ended-empty base owner (x ∷ l) e = absurd (let over = ended-over base owner (x ∷ l) (λ z. omega arith) ∙ e in let z : _≡_ {A = ℕ} 0 1 = cc in omega arith)
-
-pub fixed-fine : (n : ℕ) (next : Judge) (base owner : ℕ) (l : List ℕ) → fixedThen n next base owner l ≡ Judged.Fine
-    → (n ≤ length l) × (next (base + n) owner (drop n l) ≡ Judged.Fine)
-unfolding fixedThen
-fixed-fine n next base owner l e = go (ltb (length l) n) refl e
-  where
-    go : (t : Bool) → ltb (length l) n ≡ t → cond t (Judged.Refused owner) (next (base + n) owner (drop n l)) ≡ Judged.Fine
-        → (n ≤ length l) × (next (base + n) owner (drop n l) ≡ Judged.Fine)
-    go true p q = absurd (let z : _≡_ {A = ℕ} 0 1 = cc in omega arith)
-    go false p q = (ltb-false (length l) n p, q)
-
-pub fixed-pass : (n : ℕ) (next : Judge) (base owner : ℕ) (l : List ℕ) → n ≤ length l → next (base + n) owner (drop n l) ≡ Judged.Fine
-    → fixedThen n next base owner l ≡ Judged.Fine
-unfolding fixedThen
-fixed-pass n next base owner l h e = rw (le-ltb _ _ h) e
+ended-empty base owner (x ∷ l) e = absurd (omega (arith, ended-tells base owner (x ∷ l) e))
 
 -- the first of these slots is an operand: its kind is one, and the others follow
 operand-fine : (s : List Shape) (base owner : ℕ) (l : List ℕ) → slotsBy (anOperand ∷ s) base owner l ≡ Judged.Fine
@@ -148,7 +128,7 @@ operand-fine s base owner l e = go (leb (getD l 0 0) 2) refl e
   where
     go : (t : Bool) → leb (getD l 0 0) 2 ≡ t → cond t (fixedThen 6 (slotsBy s) base owner l) (Judged.Refused owner) ≡ Judged.Fine
         → (getD l 0 0 ≤ 2) × (6 ≤ length l) × (slotsBy s (base + 6) owner (drop 6 l) ≡ Judged.Fine)
-    go true p q = let f = fixed-fine 6 (slotsBy s) base owner l q in (leb-true (getD l 0 0) 2 p, f .0, f .1)
+    go true p q = let f = fixed-tells 6 (slotsBy s) base owner l q in (leb-true (getD l 0 0) 2 p, f .0, f .1)
     go false p q = absurd (let z : _≡_ {A = ℕ} 0 1 = cc in omega arith)
 
 -- slots read without a fault are written as they stood
@@ -159,9 +139,9 @@ slots-written (anOperand ∷ s) base owner l h e =
     let f = operand-fine s base owner l e in
     ap₂ (λ (a b : List ℕ). a ++ b) (operand-back l h (f .1) (f .0)) (slots-written s (base + 6) owner (drop 6 l) (bytes-drop 6 l h) (f .2))
     ∙ take-append-drop 6 l
-slots-written (aByte ∷ s) base owner [] h e = absurd (omega (arith, fixed-fine 1 (slotsBy s) base owner [] e .0))
+slots-written (aByte ∷ s) base owner [] h e = absurd (omega (arith, fixed-tells 1 (slotsBy s) base owner [] e .0))
 slots-written (aByte ∷ s) base owner (x ∷ l) h e =
-    ap (λ (r : List ℕ). x ∷ r) (slots-written s (base + 1) owner l (bytes-drop 1 (x ∷ l) h) (fixed-fine 1 (slotsBy s) base owner (x ∷ l) e .1))
+    ap (λ (r : List ℕ). x ∷ r) (slots-written s (base + 1) owner l (bytes-drop 1 (x ∷ l) h) (fixed-tells 1 (slotsBy s) base owner (x ∷ l) e .1))
 
 -- slots in bytes fit them
 slots-fit : (s : List Shape) (l : List ℕ) → AllBytes l → Every FitsSlot (slotsIn s l)
@@ -171,15 +151,13 @@ slots-fit (anOperand ∷ s) l h = (operand-fits l h, slots-fit s (drop 6 l) (byt
 slots-fit (aByte ∷ s) l h = (h 0, slots-fit s (drop 1 l) (bytes-drop 1 l h))
 
 -- slots are fine anywhere
-slots-anywhere : (s : List Shape) (a o b p : ℕ) (l : List ℕ) → slotsBy s a o l ≡ Judged.Fine → slotsBy s b p l ≡ Judged.Fine
+slots-anywhere : (s : List Shape) → AnywhereJudge (slotsBy s)
 unfolding slotsBy
-slots-anywhere [] a o b p l e = sym (ended-fine b p l (ap length (sym (ended-empty a o l e))))
+slots-anywhere [] a o b p l e = ended-anywhere a o b p l e
 slots-anywhere (anOperand ∷ s) a o b p l e =
     let f = operand-fine s a o l e in
-    rw (le-leb (getD l 0 0) 2 (f .0)) (fixed-pass 6 (slotsBy s) b p l (f .1) (slots-anywhere s (a + 6) o (b + 6) p (drop 6 l) (f .2)))
-slots-anywhere (aByte ∷ s) a o b p l e =
-    let f = fixed-fine 1 (slotsBy s) a o l e in
-    fixed-pass 1 (slotsBy s) b p l (f .0) (slots-anywhere s (a + 1) o (b + 1) p (drop 1 l) (f .1))
+    rw (le-leb (getD l 0 0) 2 (f .0)) (fixed-written 6 (slotsBy s) b p l (f .1) (slots-anywhere s (a + 6) o (b + 6) p (drop 6 l) (f .2)))
+slots-anywhere (aByte ∷ s) a o b p l e = fixed-anywhere 1 (slotsBy s) (slots-anywhere s) a o b p l e
 
 -- slots that are written are read as they were, without a fault
 slots-fine : (slots : List Slot) (base owner : ℕ) → slotsBy (shapesOf slots) base owner (allBytesOf slotBytes slots) ≡ Judged.Fine
@@ -189,9 +167,9 @@ slots-fine (operand o ∷ l) base owner =
     let after = allBytesOf slotBytes l in
     let six : length (operandBytes o) ≡ 6 = operand-length o in
     rw (operand-kind o after)
-    (fixed-pass 6 (slotsBy (shapesOf l)) base owner (operandBytes o ++ after) (omega (arith, length-append (operandBytes o) after))
+    (fixed-written 6 (slotsBy (shapesOf l)) base owner (operandBytes o ++ after) (omega (arith, length-append (operandBytes o) after))
     (rw (drop-at (operandBytes o) after 6 six) (slots-fine l (base + 6) owner)))
-slots-fine (byte k ∷ l) base owner = fixed-pass 1 (slotsBy (shapesOf l)) base owner (k ∷ allBytesOf slotBytes l) (omega arith) (slots-fine l (base + 1) owner)
+slots-fine (byte k ∷ l) base owner = fixed-written 1 (slotsBy (shapesOf l)) base owner (k ∷ allBytesOf slotBytes l) (omega arith) (slots-fine l (base + 1) owner)
 
 slots-back : (slots : List Slot) → Every FitsSlot slots → slotsIn (shapesOf slots) (allBytesOf slotBytes slots) ≡ slots
 unfolding slotsIn shapesOf allBytesOf
@@ -307,14 +285,14 @@ tag-bounds CellSort.Put = (lit< tt, lit< tt)
 tag-bounds CellSort.FixedBit = (lit< tt, lit< tt)
 tag-bounds CellSort.ChosenBit = (lit< tt, lit< tt)
 
-pub cell-known : (s : Sort) → isCell s ≡ true → tagOf s ≡ 0 → ⊥
+pub cell-known : Known isCell
 cell-known s is e = let f = cell-sort s is in omega (arith, tag-bounds (f .0) .0, ap tagOf (f .1))
 
 -- a payload without a fault has a width byte, and its slots follow
 cell-fine : (at : ℕ) (c : CellSort) (l : List ℕ) → cellBody at (Sort.Cell c) l ≡ Judged.Fine
     → (1 ≤ length l) × (slotsBy (shapeOf c) (at + 3 + 1) at (drop 1 l) ≡ Judged.Fine)
 unfolding cellBody
-cell-fine at c l e = fixed-fine 1 (slotsBy (shapeOf c)) (at + 3) at l e
+cell-fine at c l e = fixed-tells 1 (slotsBy (shapeOf c)) (at + 3) at l e
 
 -- what is read of a cell without a fault is written as it stood
 cell-written : (at : ℕ) (c : CellSort) (l : List ℕ) → AllBytes l → cellBody at (Sort.Cell c) l ≡ Judged.Fine
@@ -348,7 +326,7 @@ cell-fits at s l h short is fine =
     subst (λ (s : Sort). FitsCell (cellRead s l)) (sym (f .1)) (cell-in-fits at (f .0) l h (ap (λ (s : Sort). cellBody at s l) (sym (f .1)) ∙ fine))
 
 -- a cell is fine anywhere
-pub cell-anywhere : Anywhere cellBody
+pub cell-anywhere : AnywhereBody cellBody
 unfolding cellBody
 cell-anywhere a b Sort.Module l e = absurd (let z : _≡_ {A = ℕ} 0 1 = cc in omega arith)
 cell-anywhere a b (Sort.Declaration d) l e = absurd (let z : _≡_ {A = ℕ} 0 1 = cc in omega arith)
@@ -357,9 +335,7 @@ cell-anywhere a b (Sort.Statement s) l e = absurd (let z : _≡_ {A = ℕ} 0 1 =
 cell-anywhere a b Sort.Item l e = absurd (let z : _≡_ {A = ℕ} 0 1 = cc in omega arith)
 cell-anywhere a b Sort.Block l e = absurd (let z : _≡_ {A = ℕ} 0 1 = cc in omega arith)
 cell-anywhere a b (Sort.Expression s) l e = absurd (let z : _≡_ {A = ℕ} 0 1 = cc in omega arith)
-cell-anywhere a b (Sort.Cell c) l e =
-    let f = fixed-fine 1 (slotsBy (shapeOf c)) (a + 3) a l e in
-    fixed-pass 1 (slotsBy (shapeOf c)) (b + 3) b l (f .0) (slots-anywhere (shapeOf c) (a + 3 + 1) a (b + 3 + 1) b (drop 1 l) (f .1))
+cell-anywhere a b (Sort.Cell c) l e = fixed-anywhere 1 (slotsBy (shapeOf c)) (slots-anywhere (shapeOf c)) (a + 3) a (b + 3) b l e
 cell-anywhere a b Sort.Drive l e = absurd (let z : _≡_ {A = ℕ} 0 1 = cc in omega arith)
 cell-anywhere a b Sort.Netlist l e = absurd (let z : _≡_ {A = ℕ} 0 1 = cc in omega arith)
 cell-anywhere a b Sort.Unknown l e = absurd (let z : _≡_ {A = ℕ} 0 1 = cc in omega arith)
@@ -381,7 +357,7 @@ cell-stands c h = record {
   field = refl;
   short = omega (arith, payload-short c);
   is = refl;
-  fine = λ base. fixed-pass 1 (slotsBy (shapeOf (cellSortOf c))) (base + 3) base (cellPayload c) (omega arith)
+  fine = λ base. fixed-written 1 (slotsBy (shapeOf (cellSortOf c))) (base + 3) base (cellPayload c) (omega arith)
       (subst (λ (s : List Shape). slotsBy s (base + 3 + 1) base (allBytesOf slotBytes (cellSlots c)) ≡ Judged.Fine) (sym (cell-shape c))
       (slots-fine (cellSlots c) (base + 3 + 1) base));
   back = cell-in (cellSortOf c) (cellWidth c) (allBytesOf slotBytes (cellSlots c))
@@ -401,17 +377,13 @@ pub cell-bytes : (c : Cell) → FitsCell c → AllBytes (cellBytes c)
 unfolding cellBytes
 cell-bytes c h =
     field-bytes (tagOf (Sort.Cell (cellSortOf c))) (cellWidth c ∷ allBytesOf slotBytes (cellSlots c)) (tag-bounds (cellSortOf c) .1)
-    (bytes-cons (cellWidth c) (allBytesOf slotBytes (cellSlots c)) (h .0) (all-bytes FitsSlot slotBytes slot-bytes (cellSlots c) (h .1)))
+    (bytes-cons (cellWidth c) (allBytesOf slotBytes (cellSlots c)) (h .0) (all-bytes slotBytes (cellSlots c) (λ x m. slot-bytes x (every-member FitsSlot (h .1) x m))))
 
 -- drives
 
--- a sort with the tag of another is that
-pub same-sort : (a b : Sort) → isSort a b ≡ true → b ≡ a
-same-sort a b is = sym (sort-back b) ∙ ap sortOf (sym (eqb-true (tagOf a) (tagOf b) is)) ∙ sort-back a
-
-pub drive-known : (s : Sort) → isSort Sort.Drive s ≡ true → tagOf s ≡ 0 → ⊥
+pub drive-known : Known (isSort Sort.Drive)
 unfolding tagOf
-drive-known s is e = omega (arith, eqb-true (tagOf Sort.Drive) (tagOf s) is)
+drive-known = sort-known Sort.Drive (λ e. omega arith)
 
 -- the slots of a drive's payload after its variable byte
 abbrev driveShape : List Shape
@@ -421,17 +393,15 @@ driveShape = anOperand ∷ []
 pub drive-fine : (at : ℕ) (s : Sort) (l : List ℕ) → driveBody at s l ≡ Judged.Fine
     → (isSort Sort.Drive s ≡ true) × (1 ≤ length l) × (slotsBy driveShape (at + 3 + 1) at (drop 1 l) ≡ Judged.Fine)
 unfolding driveBody
-drive-fine at s l e = go (isSort Sort.Drive s) refl e
-  where
-    go : (t : Bool) → isSort Sort.Drive s ≡ t → cond t (fixedThen 1 (slotsBy driveShape) (at + 3) at l) (Judged.Refused at) ≡ Judged.Fine
-        → (isSort Sort.Drive s ≡ true) × (1 ≤ length l) × (slotsBy driveShape (at + 3 + 1) at (drop 1 l) ≡ Judged.Fine)
-    go true p q = let f = fixed-fine 1 (slotsBy driveShape) (at + 3) at l q in (p, f .0, f .1)
-    go false p q = absurd (let z : _≡_ {A = ℕ} 0 1 = cc in omega arith)
+drive-fine at s l e =
+    let c = sort-fine Sort.Drive s (fixedThen 1 (slotsBy driveShape) (at + 3) at l) at e in
+    let f = fixed-tells 1 (slotsBy driveShape) (at + 3) at l (c .1) in
+    (c .0, f .0, f .1)
 
 drive-pass : (at : ℕ) (s : Sort) (l : List ℕ) → isSort Sort.Drive s ≡ true → 1 ≤ length l → slotsBy driveShape (at + 3 + 1) at (drop 1 l) ≡ Judged.Fine
     → driveBody at s l ≡ Judged.Fine
 unfolding driveBody
-drive-pass at s l is h e = rw is (fixed-pass 1 (slotsBy driveShape) (at + 3) at l h e)
+drive-pass at s l is h e = rw is (fixed-written 1 (slotsBy driveShape) (at + 3) at l h e)
 
 pub drive-back : (at : ℕ) (s : Sort) (l : List ℕ) → AllBytes l → isSort Sort.Drive s ≡ true → driveBody at s l ≡ Judged.Fine
     → driveBytes (driveRead s l) ≡ fieldBytes (tagOf s) l
@@ -456,7 +426,7 @@ drive-stands wanted is d h = record {
   field = refl;
   short = omega (arith, operand-length (d .operand));
   is = is;
-  fine = λ base. drive-pass base Sort.Drive (d .variable ∷ operandBytes (d .operand)) (eq-eqb (tagOf Sort.Drive) (tagOf Sort.Drive) refl) (omega arith)
+  fine = λ base. drive-pass base Sort.Drive (d .variable ∷ operandBytes (d .operand)) (is-itself Sort.Drive) (omega arith)
       (rw (← append-nil (operandBytes (d .operand))) (slots-fine (operand (d .operand) ∷ []) (base + 3 + 1) base));
   back = ap (λ (o : Operand). record { variable = d .variable; operand = o })
       (ap operandIn (sym (append-nil (operandBytes (d .operand)))) ∙ operand-front (d .operand) [] (h .1 .1));

@@ -9,11 +9,14 @@ use Rattle.tagged.specs.Limits.{longestNetlist}
 use Rattle.tagged.specs.Fields.{thenBy, passedBytes, unplaced, sizeOf}
 use Rattle.tagged.specs.Declarations.{widthOf, declarationsStep, afterDeclarations}
 use Rattle.tagged.specs.Rows.{rowBytes, rowNumbers, rowAnswer}
-use Rattle.tagged.specs.declared.answers.Rule.the-variants as Rule
 use Rattle.tagged.specs.declared.answers.Answer.the-variants as Answer
 use Rattle.tagged.specs.declared.fields.Step.{Step}
 use Rattle.tagged.specs.declared.fields.Step.the-variants as Step
 use Rattle.tagged.proofs.FieldLaws.{field-passed}
+use Rattle.tagged.proofs.JudgeLaws.{then-tells}
+use Rattle.tagged.proofs.FileLaws.{file-fits}
+use Rattle.tagged.proofs.DeclarationBytes.{after-declared}
+use Rattle.tagged.proofs.DeclarationSizes.{variables-few}
 use Rattle.tagged.proofs.RowLaws.{bytes-length, fits-length, numbers-front, RowAccepted, row-accepted}
 use Rattle.words.specs.Values.{Outcome}
 use Rattle.netlist.specs.Lists.{Netlist}
@@ -22,11 +25,10 @@ use Rattle.netlist.specs.Reading.{cellsAt, drivesAt, listsIn, netlistIn}
 use Rattle.netlist.specs.Answer.{netlistAnswer}
 use Rattle.netlist.specs.Run.{fileWidths, cycleOf, rowLeft}
 use Rattle.netlist.specs.Numbers.{cellNumbers, drivenNumbers}
-use Rattle.netlist.proofs.FieldRuns.{then-fine}
-use Rattle.netlist.proofs.NetlistBytes.{declarations-anywhere, cells-anywhere, body-fine, file-fits}
+use Rattle.netlist.proofs.NetlistBytes.{cells-anywhere, body-fine}
 use Rattle.netlist.proofs.Accepted.{AnswerParts, answer-parts}
-use Rattle.netlist.proofs.RulePasses.{RulePasses, lists-pass}
-use Rattle.netlist.proofs.RulesFit.{declarations-count, cells-count}
+use Rattle.netlist.proofs.PassedRules.{accepted-rules}
+use Rattle.netlist.proofs.RulesFit.{cells-count}
 use Rattle.netlist.proofs.NeverStops.{never-stops}
 use Rattle.netlist.proofs.NumberLaws.{cycle-counts}
 
@@ -40,10 +42,10 @@ cells-passed file p =
     let size : f .size ≡ sizeOf file = f .whole .size in
     let whole : take (f .size) l ≡ l = take-all (f .size) l (omega (arith, fits .outer, length-drop 3 file)) in
     let body = body-fine 0 (f .sort) l (ap (netlistBody 0 (f .sort)) (sym whole) ∙ f .fine) in
-    let d = then-fine declarationsStep (thenBy cellsStep drivesJudge) 3 0 l (body .1) in
-    let g = then-fine cellsStep drivesJudge (3 + d .0) 0 (drop (d .0) l) (d .2) in
-    let from : afterDeclarations l ≡ drop (d .0) l = ap (λ (s : Step). drop (passedBytes s) l) (declarations-anywhere 3 0 l (d .0) (d .1)) in
-    (g .0, rw from (cells-anywhere (3 + d .0) 0 (drop (d .0) l) (g .0) (g .1)))
+    let d = then-tells declarationsStep (thenBy cellsStep drivesJudge) 3 0 l (body .1) in
+    let g = then-tells cellsStep drivesJudge (3 + d .size) 0 (drop (d .size) l) (d .rest) in
+    let from : afterDeclarations l ≡ drop (d .size) l = after-declared 3 0 l (d .size) (d .passed) in
+    (g .size, rw from (cells-anywhere (3 + d .size) 0 (drop (d .size) l) (g .size) (g .passed)))
 
 -- bytes that take all the room
 sets-all : (o bs : List ℕ) → length bs ≡ length o → sets o 0 bs ≡ bs
@@ -60,9 +62,7 @@ part-short l k r e h = omega (arith, ap length e, length-drop k l)
 pub few-declared : (file : List ℕ) → netlistAnswer file ≡ Answer.Accepted → length (netlistIn file .declarations) ≤ 64
 few-declared file accepted =
     let n = netlistIn file in
-    let rules = lists-pass 3 n (answer-parts file accepted .lists) in
-    let count : RulePasses n Rule.Count = rules .1 .1 .0 in
-    declarations-count (n .declarations) (count .declarations)
+    variables-few 3 (n .declarations) (accepted-rules 3 n (answer-parts file accepted .lists) .count .declarations)
 
 -- one cycle of a file that is accepted, from a row that fits
 module _ (file row next : List ℕ) (accepted : netlistAnswer file ≡ Answer.Accepted) (rows : rowAnswer (fileWidths file) row (length next) ≡ Answer.Accepted) where
@@ -85,10 +85,7 @@ module _ (file row next : List ℕ) (accepted : netlistAnswer file ≡ Answer.Ac
   few-variables = few-declared file accepted
 
   few-cells : length (n .cells) ≤ 1024
-  few-cells =
-      let rules = lists-pass 3 n (parts .lists) in
-      let cells : RulePasses n Rule.Cells = rules .1 .1 .1 .1 .1 .1 .0 in
-      cells-count n (cells .whole)
+  few-cells = cells-count n (accepted-rules 3 n (parts .lists) .cells .whole)
 
   count-is : length row / 4 ≡ length (n .declarations)
   count-is = omega (arith, fit .long, variables)

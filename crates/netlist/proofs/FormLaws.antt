@@ -22,12 +22,12 @@ use Rattle.tagged.specs.declared.fields.Step.{Step}
 use Rattle.tagged.specs.declared.fields.Step.the-variants as Step
 use Rattle.tagged.proofs.sorts.Sort as sorts
 use Rattle.tagged.proofs.ByteLaws.{rest}
-use Rattle.tagged.proofs.TestLaws.{not-both}
+use Rattle.tagged.proofs.SortLaws.{same-sort}
+use Rattle.tagged.proofs.TestLaws.{both, not-both}
 use Rattle.tagged.proofs.FieldLaws.{fixed-short, fixed-then}
 use Rattle.tagged.proofs.ListBytes.{Run, many-run}
 use Rattle.netlist.specs.Form.{Shape, anOperand, aByte, shapeOf, slotsBy, cellBody, driveBody, cellsStep, drivesJudge, netlistBody}
-use Rattle.netlist.proofs.PassLaws.{and-true}
-use Rattle.netlist.proofs.CellBytes.{cell-sort, same-sort}
+use Rattle.netlist.proofs.CellBytes.{cell-sort}
 
 -- slots that begin with an operand, as the code tests it
 module _ (shape s : List Shape) (begins : shape ≡ anOperand ∷ s) (base owner : ℕ) (l : List ℕ) (t : Bool) (tested : t ≡ leb (getD l 0 0) 2 && leb 6 (length l)) where
@@ -43,9 +43,9 @@ module _ (shape s : List Shape) (begins : shape ≡ anOperand ∷ s) (base owner
   pub operand-then : t ≡ true → (part : List ℕ) → part ≡ drop 6 l → (w : Judged) → w ≡ slotsBy s (base + 6) owner part → w ≡ slotsBy shape base owner l
   unfolding slotsBy
   operand-then is part pl w wn =
-      let both = and-true (leb (getD l 0 0) 2) (leb 6 (length l)) (sym tested ∙ is) in
-      let six : 6 ≤ length l = leb-true 6 (length l) (both .1) in
-      rw (begins, both .0) (fixed-then 6 (slotsBy s) base owner l six w (wn ∙ ap (slotsBy s (base + 6) owner) (pl ∙ sym (rest l 6))))
+      let held = both (leb (getD l 0 0) 2) (leb 6 (length l)) (sym tested ∙ is) in
+      let six : 6 ≤ length l = leb-true 6 (length l) (held .1) in
+      rw (begins, held .0) (fixed-then 6 (slotsBy s) base owner l six w (wn ∙ ap (slotsBy s (base + 6) owner) (pl ∙ sym (rest l 6))))
 
 -- slots that begin with a byte
 module _ (s : List Shape) (base owner : ℕ) (l : List ℕ) where

@@ -1,5 +1,5 @@
 -- Laws and theorems of netlists: their bytes and lists give each other back, and a netlist without refusal is one whose bytes are accepted.
-pub mod FieldRuns
+pub mod EveryLaws
 pub mod CellBytes
 pub mod NetlistBytes
 pub mod FormLaws
@@ -9,11 +9,9 @@ pub mod RuleLaws
 pub mod RuleWalks
 pub mod RuleParts
 pub mod RunWalks
-pub mod PassLaws
-pub mod RulePasses
 pub mod Accepted
-pub mod RulesFit
 pub mod PassedRules
+pub mod RulesFit
 pub mod RegisterLaws
 pub mod NeverStops
 pub mod NumberLaws

@@ -1,20 +1,19 @@
 -- Whole netlists and their bytes give each other back: lists that fit are read as they were, and every file without a fault is exactly the bytes
 -- of its lists, at their places. By the laws of lists of fields, once for declarations, cells and drives.
 use mathlib.Core.Path.{_≡_, refl, sym, ap, ap₂, _∙_, subst}
-use mathlib.Core.Bool.{Bool, true, false, cond, _&&_, true≢false}
+use mathlib.Core.Bool.{Bool, true, false}
 use mathlib.Core.List.{List, [], _∷_, _++_, append-assoc, append-nil}
 use Prim.Native.Nat.{ℕ, _+_, _-_, _≤_, _<_}
 use native.Mathlib.Omega.{arith}
-use lib.Dec.{lit<, leb}
+use lib.Dec.{lit<}
 use lib.ListN.{length, getD, take, drop, length-take, length-drop, take-append-drop}
-use lib.Seq.{drop-at, take-all, drop-length}
-use borrow.Author.Tests.{eqb-true, leb-true, le-leb, eq-eqb}
+use lib.Seq.{drop-at, take-all}
 use Rattle.tagged.specs.Limits.{longestNetlist}
 use Rattle.tagged.specs.Bytes.{AllBytes, fourBytes, fourOf, twoBytes}
 use Rattle.tagged.specs.Sorts.{sortOf, tagOf, isDeclaration, isCell, isSort}
-use Rattle.tagged.specs.Fields.{fieldBytes, allBytesOf, sizeOf, fieldBy, thenBy, fixedThen, anyBytes, many, anySort, ended, unplaced, placedBy, passedBytes}
-use Rattle.tagged.specs.Files.{outerFits, outerAnswer, fileAnswer}
-use Rattle.tagged.specs.Declarations.{Declaration, input, register, declarationBytes, fixedBytes, declarationBody, declarationsStep, declarationRead, declarationsAt, declarationsIn, afterDeclarations}
+use Rattle.tagged.specs.Fields.{fieldBytes, allBytesOf, sizeOf, fieldBy, thenBy, unplaced, placedBy, passedBytes}
+use Rattle.tagged.specs.Files.{fileAnswer}
+use Rattle.tagged.specs.Declarations.{Declaration, input, register, declarationBytes, declarationBody, declarationsStep, declarationRead, declarationsAt, declarationsIn, afterDeclarations}
 use Rattle.tagged.specs.declared.sorts.DeclarationSort.{DeclarationSort}
 use Rattle.tagged.specs.declared.sorts.DeclarationSort.the-variants as DeclarationSort
 use Rattle.tagged.specs.declared.sorts.Sort.{Sort}
@@ -23,16 +22,20 @@ use Rattle.tagged.specs.declared.fields.Judged.{Judged}
 use Rattle.tagged.specs.declared.fields.Judged.the-variants as Judged
 use Rattle.tagged.specs.declared.fields.Step.{Step}
 use Rattle.tagged.specs.declared.fields.Step.the-variants as Step
-use Rattle.tagged.specs.declared.answers.Rule.the-variants as Rule
 use Rattle.tagged.specs.declared.answers.Answer.{Answer}
 use Rattle.tagged.specs.declared.answers.Answer.the-variants as Answer
 use Rattle.tagged.proofs.ByteLaws.{four-lt, bytes-drop}
-use Rattle.tagged.proofs.SortLaws.{tag-back}
-use Rattle.tagged.proofs.FieldLaws.{field-passed, passed-field, ended-fine}
+use Rattle.tagged.proofs.SortLaws.{tag-back, same-sort}
+use Rattle.tagged.proofs.FieldLaws.{field-passed, passed-field}
 use Rattle.tagged.proofs.ListLaws.{read-anywhere}
-use Rattle.tagged.proofs.ListBytes.{Stops, Each, Stands, Run, many-run, list-many, list-read, placed-unplaced, whole-bytes, field-whole, field-payload, field-length}
-use Rattle.tagged.proofs.DeclarationLaws.{declaration-sort, other-sort}
-use Rattle.tagged.proofs.DeclarationBytes.{Declared, declarations-read, Writable, writable-stands, declarations-pass, declarations-placed}
+use Rattle.tagged.proofs.ListBytes.{Stops, Each, Stands, Run, many-run, list-many, placed-unplaced, whole-bytes, field-whole, field-payload, field-length}
+use Rattle.tagged.proofs.AllBytesLaws.{bytes-cons, bytes-append, four-bytes, field-bytes, all-bytes}
+use Rattle.tagged.proofs.JudgeLaws.{then-tells, sort-fine, then-passed}
+use Rattle.tagged.proofs.AnyPlace.{field-anywhere, many-anywhere}
+use Rattle.tagged.proofs.RunLaws.{until-run, run-has, Listed, run-listed, each-stands, stops-none, stops-field, until-stands, list-back, until-back}
+use Rattle.tagged.proofs.FileLaws.{file-fits}
+use Rattle.tagged.proofs.DeclarationLaws.{declaration-sort}
+use Rattle.tagged.proofs.DeclarationBytes.{Declared, declarations-read, declarations-anywhere, after-declared, Writable, writable-stands, declarations-pass, declarations-placed}
 use Rattle.netlist.specs.declared.Cell.{Cell}
 use Rattle.netlist.specs.declared.Drive.{Drive}
 use Rattle.netlist.specs.Lists.{Netlist, cellSortOf}
@@ -40,8 +43,8 @@ use Rattle.netlist.specs.Form.{cellBytes, driveBytes, netlistPayload, ne
 use Rattle.netlist.specs.Reading.{cellRead, driveRead, cellsAt, drivesAt, afterCells, listsIn, netlistIn}
 use Rattle.netlist.specs.Rules.{cellsBase, drivesBase}
 use Rattle.netlist.specs.Fits.{Every, FitsDeclaration, FitsCell, FitsDrive, FitsBytes}
-use Rattle.netlist.proofs.FieldRuns.{bytes-cons, bytes-append, every-bytes, bytes-every, field-bytes, all-bytes, Anywhere, field-anywhere, many-anywhere, run-narrow, run-every, then-fine, then-pass, Listed, run-listed, each-stands, stops-none, stops-field}
-use Rattle.netlist.proofs.CellBytes.{four-bytes, cell-known, cell-back, cell-fits, cell-anywhere, cell-stands, cell-bytes, drive-known, drive-fine, drive-back, drive-fits, drive-stands, drive-bytes, same-sort, ended-empty, fixed-fine, fixed-pass}
+use Rattle.netlist.proofs.EveryLaws.{every-member, member-every, every-bytes, bytes-every}
+use Rattle.netlist.proofs.CellBytes.{cell-known, cell-back, cell-fits, cell-anywhere, cell-stands, cell-bytes, drive-known, drive-fine, drive-back, drive-fits, drive-stands, drive-bytes}
 
 -- declarations
 
@@ -73,21 +76,6 @@ declaration-fits : (at : ℕ) (s : Sort) (l : List ℕ) → AllBytes l → lengt
 declaration-fits at s l h short is fine =
     let f = declaration-sort s is in
     subst (λ (s : Sort). FitsDeclaration (declarationRead s l)) (sym (f .1)) (read-fits (f .0) l h short)
-
-declaration-anywhere : Anywhere declarationBody
-unfolding declarationBody
-declaration-anywhere a b s l e = go (isDeclaration s) refl
-  where
-    sorted : (d : DeclarationSort) → s ≡ Sort.Declaration d → declarationBody b s l ≡ Judged.Fine
-    sorted d is =
-        let f = fixed-fine (fixedBytes d) anyBytes (a + 3) a l (ap (λ (s : Sort). declarationBody a s l) (sym is) ∙ e) in
-        ap (λ (s : Sort). declarationBody b s l) is ∙ fixed-pass (fixedBytes d) anyBytes (b + 3) b l (f .0) refl
-
-    go : (t : Bool) → isDeclaration s ≡ t → declarationBody b s l ≡ Judged.Fine
-    go true is = let f = declaration-sort s is in sorted (f .0) (f .1)
-    go false off =
-        let other = sym (other-sort s (λ d. fixedThen (fixedBytes d) anyBytes (a + 3) a l) (Judged.Refused a) off) ∙ e in
-        absurd (let z : _≡_ {A = ℕ} 0 1 = cc in omega arith)
 
 declaration-bytes : (d : Declaration) → FitsDeclaration d → AllBytes (declarationBytes d)
 unfolding declarationBytes tagOf
@@ -121,13 +109,15 @@ module _ (n : Netlist) (h : FitsBytes n) where
   vs = allBytesOf driveBytes (n .drives)
 
   each-declaration : Each isDeclaration declarationBody declarationRead declarationBytes (n .declarations)
-  each-declaration = each-stands isDeclaration declarationBody declarationRead declarationBytes FitsDeclaration fits-stands (n .declarations) (h .declarations)
+  each-declaration = each-stands isDeclaration declarationBody declarationRead declarationBytes (n .declarations) (λ x m. fits-stands x (every-member FitsDeclaration (h .declarations) x m))
 
   each-cell : Each isCell cellBody cellRead cellBytes (n .cells)
-  each-cell = each-stands isCell cellBody cellRead cellBytes FitsCell cell-stands (n .cells) (h .cells)
+  each-cell = each-stands isCell cellBody cellRead cellBytes (n .cells) (λ x m. cell-stands x (every-member FitsCell (h .cells) x m))
 
-  each-drive : (wanted : Sort → Bool) → wanted Sort.Drive ≡ true → Each wanted driveBody driveRead driveBytes (n .drives)
-  each-drive wanted is = each-stands wanted driveBody driveRead driveBytes FitsDrive (drive-stands wanted is) (n .drives) (h .drives)
+  each-drive : Each (isSort Sort.Drive) driveBody driveRead driveBytes (n .drives)
+  unfolding tagOf
+  each-drive =
+      each-stands (isSort Sort.Drive) driveBody driveRead driveBytes (n .drives) (λ x m. drive-stands (isSort Sort.Drive) refl x (every-member FitsDrive (h .drives) x m))
 
   payload-is : netlistPayload n ≡ ds ++ (cs ++ vs)
   unfolding netlistPayload ds cs vs
@@ -144,19 +134,14 @@ module _ (n : Netlist) (h : FitsBytes n) where
 
   judge-drives : (base owner : ℕ) → drivesJudge base owner vs ≡ Judged.Fine
   unfolding drivesJudge vs
-  judge-drives base owner =
-      let all : many anySort (fieldBy driveBody) base owner vs ≡ Step.Past (length vs) =
-      ap (many anySort (fieldBy driveBody) base owner) (sym (append-nil vs))
-      ∙ list-many anySort driveBody driveRead driveBytes base owner [] (each-drive anySort refl) (stops-none anySort) in
-      then-pass (many anySort (fieldBy driveBody)) ended base owner vs (length vs) all
-      (sym (ended-fine (base + length vs) owner (drop (length vs) vs) (ap length (drop-length vs))))
+  judge-drives base owner = until-stands (isSort Sort.Drive) driveBody driveRead driveBytes base owner each-drive
 
   payload-fine : (base owner : ℕ) → thenBy declarationsStep (thenBy cellsStep drivesJudge) base owner (netlistPayload n) ≡ Judged.Fine
   payload-fine base owner =
       rw payload-is
-      (then-pass declarationsStep (thenBy cellsStep drivesJudge) base owner (ds ++ (cs ++ vs)) (length ds) (step-declarations base owner)
+      (then-passed declarationsStep (thenBy cellsStep drivesJudge) base owner (ds ++ (cs ++ vs)) (length ds) (step-declarations base owner)
       (rw (drop-at ds (cs ++ vs) (length ds) refl)
-      (then-pass cellsStep drivesJudge (base + length ds) owner (cs ++ vs) (length cs) (step-cells (base + length ds) owner)
+      (then-passed cellsStep drivesJudge (base + length ds) owner (cs ++ vs) (length cs) (step-cells (base + length ds) owner)
       (rw (drop-at cs vs (length cs) refl) (judge-drives (base + length ds + length cs) owner)))))
 
   pub form-written : netlistForm (netlistBytes n) ≡ Step.Past (length (netlistBytes n))
@@ -189,16 +174,11 @@ module _ (n : Netlist) (h : FitsBytes n) where
 
   in-cells : unplaced (cellsAt 0 (cs ++ vs)) ≡ n .cells
   unfolding cellsAt cs vs
-  in-cells =
-      ap unplaced (list-read isCell cellBody cellRead cellBytes 0 vs each-cell (drives-stop isCell refl (n .drives)))
-      ∙ placed-unplaced cellBytes 0 (n .cells)
+  in-cells = list-back isCell cellBody cellRead cellBytes vs each-cell (drives-stop isCell refl (n .drives))
 
   in-drives : unplaced (drivesAt 0 vs) ≡ n .drives
-  unfolding drivesAt vs tagOf
-  in-drives =
-      ap (λ (l : List ℕ). unplaced (drivesAt 0 l)) (sym (append-nil vs))
-      ∙ ap unplaced (list-read (isSort Sort.Drive) driveBody driveRead driveBytes 0 [] (each-drive (isSort Sort.Drive) refl) (stops-none (isSort Sort.Drive)))
-      ∙ placed-unplaced driveBytes 0 (n .drives)
+  unfolding drivesAt vs
+  in-drives = until-back (isSort Sort.Drive) driveBody driveRead driveBytes each-drive
 
   lists-written : listsIn (netlistPayload n) ≡ n
   unfolding listsIn
@@ -217,9 +197,9 @@ module _ (n : Netlist) (h : FitsBytes n) where
   written-bytes =
       field-bytes (tagOf Sort.Netlist) (netlistPayload n) (lit< tt)
       (bytes-append (ds ++ cs) vs
-      (bytes-append ds cs (all-bytes FitsDeclaration declarationBytes declaration-bytes (n .declarations) (h .declarations))
-      (all-bytes FitsCell cellBytes cell-bytes (n .cells) (h .cells)))
-      (all-bytes FitsDrive driveBytes drive-bytes (n .drives) (h .drives)))
+      (bytes-append ds cs (all-bytes declarationBytes (n .declarations) (λ x m. declaration-bytes x (every-member FitsDeclaration (h .declarations) x m)))
+      (all-bytes cellBytes (n .cells) (λ x m. cell-bytes x (every-member FitsCell (h .cells) x m))))
+      (all-bytes driveBytes (n .drives) (λ x m. drive-bytes x (every-member FitsDrive (h .drives) x m))))
 
 -- those bytes read back as the same lists
 pub read-written : (n : Netlist) → FitsBytes n → (netlistForm (netlistBytes n) ≡ Step.Past (length (netlistBytes n))) × (netlistIn (netlistBytes n) ≡ n)
@@ -228,27 +208,14 @@ read-written n h = (form-written n h, lists-back n h)
 -- from bytes: every file without a fault is the bytes of its lists
 
 -- drives until the end: they take the whole list
-drives-run : (base owner : ℕ) (l : List ℕ) → drivesJudge base owner l ≡ Judged.Fine → (m : ℕ) × Run (isSort Sort.Drive) driveBody base l m × (length l ≤ m)
+drives-run : (base owner : ℕ) (l : List ℕ) → AllBytes l → drivesJudge base owner l ≡ Judged.Fine → (m : ℕ) × Run (isSort Sort.Drive) driveBody base l m × (length l ≤ m)
 unfolding drivesJudge
-drives-run base owner l e =
-    let f = then-fine (many anySort (fieldBy driveBody)) ended base owner l e in
-    let m = f .0 in
-    let run = many-run anySort driveBody (length l) base owner l m (omega arith) (f .1) in
-    let none = ended-empty (base + m) owner (drop m l) (f .2) in (
-      m,
-      run-narrow anySort (isSort Sort.Drive) driveBody (λ s off. absurd (true≢false off)) (λ at s p fine. drive-fine at s p fine .0) run,
-      omega (arith, ap length none, length-drop m l),
-    )
+drives-run = until-run (isSort Sort.Drive) driveBody (λ at s p all fine. drive-fine at s p fine .0)
 
--- a step over declarations or over cells counts the same bytes anywhere
-pub declarations-anywhere : (base owner : ℕ) (l : List ℕ) (m : ℕ) → declarationsStep base owner l ≡ Step.Past m → declarationsStep 0 0 l ≡ Step.Past m
-unfolding declarationsStep
-declarations-anywhere base owner l m e =
-    many-anywhere isDeclaration (fieldBy declarationBody) (field-anywhere declarationBody declaration-anywhere) 0 base owner 0 0 l m e
-
+-- a step over cells counts the same bytes anywhere
 pub cells-anywhere : (base owner : ℕ) (l : List ℕ) (m : ℕ) → cellsStep base owner l ≡ Step.Past m → cellsStep 0 0 l ≡ Step.Past m
 unfolding cellsStep
-cells-anywhere base owner l m e = many-anywhere isCell (fieldBy cellBody) (field-anywhere cellBody cell-anywhere) 0 base owner 0 0 l m e
+cells-anywhere base owner l m e = many-anywhere isCell (fieldBy cellBody) (field-anywhere cellBody cell-anywhere) base owner 0 0 l m e
 
 -- what the lists of an outer payload without a fault are
 pub record PayloadRead (base : ℕ) (l : List ℕ) : Type 0 where
@@ -279,7 +246,7 @@ module _ (base owner : ℕ) (l : List ℕ) (h : AllBytes l) (j k : ℕ) (declare
   bytes-drives = bytes-drop k (drop j l) bytes-cells
 
   from-cells : afterDeclarations l ≡ drop j l
-  from-cells = ap (λ (s : Step). drop (passedBytes s) l) (declarations-anywhere base owner l j declared)
+  from-cells = after-declared base owner l j declared
 
   from-drives : afterCells l ≡ drop k (drop j l)
   from-drives =
@@ -301,7 +268,7 @@ module _ (base owner : ℕ) (l : List ℕ) (h : AllBytes l) (j k : ℕ) (declare
   listed-cells = run-listed isCell cellBody cellRead cellBytes cell-known cell-back bytes-cells cells-run
 
   drives-taken : (m : ℕ) × Run (isSort Sort.Drive) driveBody (base + j + k) (drop k (drop j l)) m × (length (drop k (drop j l)) ≤ m)
-  drives-taken = drives-run (base + j + k) owner (drop k (drop j l)) driven
+  drives-taken = drives-run (base + j + k) owner (drop k (drop j l)) bytes-drives driven
 
   listed-drives : Listed (isSort Sort.Drive) driveRead driveBytes (base + j + k) (drop k (drop j l)) (drives-taken .0)
   listed-drives = run-listed (isSort Sort.Drive) driveBody driveRead driveBytes drive-known drive-back bytes-drives (drives-taken .1)
@@ -355,11 +322,11 @@ module _ (base owner : ℕ) (l : List ℕ) (h : AllBytes l) (j k : ℕ) (declare
   lists-read = record {
     written = written-payload;
     declarations-fit = subst (λ (ds : List Declaration). Every FitsDeclaration ds) (read-anywhere isDeclaration declarationRead 0 base 0 l)
-        (run-every isDeclaration declarationBody declarationRead FitsDeclaration declaration-fits h declarations-run);
+        (member-every FitsDeclaration _ (run-has isDeclaration declarationBody declarationRead FitsDeclaration declaration-fits h declarations-run));
     cells-fit = subst (λ (cs : List Cell). Every FitsCell cs) (read-anywhere isCell cellRead 0 (base + j) 0 (drop j l) ∙ the-cells)
-        (run-every isCell cellBody cellRead FitsCell cell-fits bytes-cells cells-run);
+        (member-every FitsCell _ (run-has isCell cellBody cellRead FitsCell cell-fits bytes-cells cells-run));
     drives-fit = subst (λ (vs : List Drive). Every FitsDrive vs) (read-anywhere (isSort Sort.Drive) driveRead 0 (base + j + k) 0 (drop k (drop j l)) ∙ the-drives)
-        (run-every (isSort Sort.Drive) driveBody driveRead FitsDrive drive-fits bytes-drives (drives-taken .1));
+        (member-every FitsDrive _ (run-has (isSort Sort.Drive) driveBody driveRead FitsDrive drive-fits bytes-drives (drives-taken .1)));
     declarations-placed = listed-declarations .places;
     cells-placed = ap₂ (λ (b : ℕ) (r : List ℕ). cellsAt b r) base-cells from-cells ∙ listed-cells .places
         ∙ ap₂ (λ (b : ℕ) (cs : List Cell). placedBy cellBytes b cs) (sym base-cells) the-cells;
@@ -374,30 +341,9 @@ module _ (base owner : ℕ) (l : List ℕ) (h : AllBytes l) (j k : ℕ) (declare
 
 pub payload-read : (base owner : ℕ) (l : List ℕ) → AllBytes l → thenBy declarationsStep (thenBy cellsStep drivesJudge) base owner l ≡ Judged.Fine → PayloadRead base l
 payload-read base owner l h e =
-    let f = then-fine declarationsStep (thenBy cellsStep drivesJudge) base owner l e in
-    let g = then-fine cellsStep drivesJudge (base + f .0) owner (drop (f .0) l) (f .2) in
-    lists-read base owner l h (f .0) (g .0) (f .1) (g .1) (g .2)
-
--- a file to which refusal 1 does not apply: its length is allowed, and its outer length is the rest of it
-pub record FileFits (longest : ℕ) (file : List ℕ) : Type 0 where
-  pub header : 3 ≤ length file
-  pub short : length file ≤ longest
-  pub outer : sizeOf file + 3 ≡ length file
-
-pub file-fits : (longest : ℕ) (file : List ℕ) → fileAnswer longest file ≡ Answer.Accepted → FileFits longest file
-unfolding fileAnswer outerAnswer
-file-fits longest file e = go (leb 3 (length file)) refl (leb (length file) longest) refl (outerFits file) refl e
-  where
-    go : (a : Bool) → leb 3 (length file) ≡ a → (b : Bool) → leb (length file) longest ≡ b → (c : Bool) → outerFits file ≡ c →
-        cond (a && b) (cond c Answer.Accepted (Answer.Refused Rule.FileLength 0)) (Answer.Refused Rule.FileLength 0) ≡ Answer.Accepted → FileFits longest file
-    go true p true q true r e = record { header = leb-true 3 (length file) p; short = leb-true (length file) longest q; outer = eqb-true (sizeOf file + 3) (length file) r }
-    go true p true q false r e = absurd (let z : _≡_ {A = ℕ} 0 1 = cc in omega arith)
-    go true p false q c r e = absurd (let z : _≡_ {A = ℕ} 0 1 = cc in omega arith)
-    go false p b q c r e = absurd (let z : _≡_ {A = ℕ} 0 1 = cc in omega arith)
-
-pub fits-file : (longest : ℕ) (file : List ℕ) → FileFits longest file → fileAnswer longest file ≡ Answer.Accepted
-unfolding fileAnswer outerAnswer
-fits-file longest file f = rw (le-leb 3 (length file) (f .header), le-leb (length file) longest (f .short), eq-eqb (sizeOf file + 3) (length file) (f .outer))
+    let f = then-tells declarationsStep (thenBy cellsStep drivesJudge) base owner l e in
+    let g = then-tells cellsStep drivesJudge (base + f .size) owner (drop (f .size) l) (f .rest) in
+    lists-read base owner l h (f .size) (g .size) (f .passed) (g .passed) (g .rest)
 
 -- what an accepted file is
 pub record FileRead (file : List ℕ) : Type 0 where
@@ -409,12 +355,7 @@ pub record FileRead (file : List ℕ) : Type 0 where
 pub body-fine : (at : ℕ) (s : Sort) (l : List ℕ) → netlistBody at s l ≡ Judged.Fine
     → (isSort Sort.Netlist s ≡ true) × (thenBy declarationsStep (thenBy cellsStep drivesJudge) (at + 3) at l ≡ Judged.Fine)
 unfolding netlistBody
-body-fine at s l e = go (isSort Sort.Netlist s) refl e
-  where
-    go : (t : Bool) → isSort Sort.Netlist s ≡ t → cond t (thenBy declarationsStep (thenBy cellsStep drivesJudge) (at + 3) at l) (Judged.Refused at) ≡ Judged.Fine
-        → (isSort Sort.Netlist s ≡ true) × (thenBy declarationsStep (thenBy cellsStep drivesJudge) (at + 3) at l ≡ Judged.Fine)
-    go true p q = (p, q)
-    go false p q = absurd (let z : _≡_ {A = ℕ} 0 1 = cc in omega arith)
+body-fine at s l e = sort-fine Sort.Netlist s (thenBy declarationsStep (thenBy cellsStep drivesJudge) (at + 3) at l) at e
 
 -- every accepted file is exactly the bytes of its lists
 pub written-read : (file : List ℕ) (m : ℕ) → AllBytes file → fileAnswer longestNetlist file ≡ Answer.Accepted → netlistForm file ≡ Step.Past m → FileRead file

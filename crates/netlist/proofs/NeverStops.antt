@@ -34,12 +34,12 @@ use Rattle.netlist.specs.declared.Drive.{Drive}
 use Rattle.netlist.specs.Lists.{Netlist, operandWidth, cellWidth, cellSlots, operandsIn}
 use Rattle.netlist.specs.Form.{cellBytes, driveBytes}
 use Rattle.netlist.specs.Rules.{widthOfCell, someOperand, operandValueBroken, operandMissing, operandUnlike, cellUnlike}
-use Rattle.netlist.specs.Rules.{cellOutside, cellBreaks, registersFrom, notNext, driveBreaks, cellsBase, drivesBase, netlistBroken}
-use Rattle.netlist.specs.Answer.{netlistRules, listsAnswer}
+use Rattle.netlist.specs.Rules.{cellOutside, cellBreaks, registersFrom, notNext, driveBreaks, cellsBase, drivesBase}
+use Rattle.netlist.specs.Answer.{listsAnswer}
 use Rattle.netlist.specs.Cycle.{operandValue, cellValue, cellValues, driven, netlistCycle}
 use Rattle.tagged.proofs.TestLaws.{neither}
-use Rattle.tagged.proofs.RefusalLaws.{front-passes, NoneBroken, none, more, accepted-none}
-use Rattle.netlist.proofs.PassedRules.{RulePasses, nowhere-rule}
+use Rattle.tagged.proofs.RefusalLaws.{front-passes}
+use Rattle.netlist.proofs.PassedRules.{RulePasses, accepted-rules}
 use Rattle.netlist.proofs.RegisterLaws.{registers-marked}
 use Rattle.tagged.proofs.CycleLaws.{fits-set, Steps, Runs, cycles-run}
 
@@ -299,14 +299,7 @@ module _ (base : ℕ) (n : Netlist) (value : RulePasses base n Rule.Value) (refe
 -- one cycle of an accepted netlist
 pub never-stops : (base : ℕ) (n : Netlist) → listsAnswer base n ≡ Answer.Accepted → (row : List ℕ) → allFit (map widthOf (n .declarations)) row ≡ true →
     Steps (netlistCycle n) (n .declarations) row
-unfolding listsAnswer
-never-stops base n e = go (accepted-none (netlistBroken base n) netlistRules e)
-  where
-    go : NoneBroken (netlistBroken base n) netlistRules → (row : List ℕ) → allFit (map widthOf (n .declarations)) row ≡ true →
-        Steps (netlistCycle n) (n .declarations) row
-    go (more value (more name (more count (more reference (more widths (more bits (more many none))))))) = passing-steps base n
-        (nowhere-rule base n Rule.Value value) (nowhere-rule base n Rule.Reference reference)
-        (nowhere-rule base n Rule.Widths widths) (nowhere-rule base n Rule.BitNumber bits)
+never-stops base n e = let p = accepted-rules base n e in passing-steps base n (p .value) (p .reference) (p .widths) (p .bits)
 
 -- any number of cycles, each with its own inputs
 pub never-stops-ever : (base : ℕ) (n : Netlist) → listsAnswer base n ≡ Answer.Accepted →

@@ -23,7 +23,8 @@ use Rattle.netlist.specs.declared.reading.NextCell.the-variants as NextC
 use Rattle.netlist.specs.declared.reading.NextDrive.{NextDrive}
 use Rattle.netlist.specs.declared.reading.NextDrive.the-variants as NextDrive
 use Rattle.netlist.specs.Reading.{cellIn, cellRead, driveIn, driveRead, nextCellIn, nextDriveIn, cellsAt, drivesAt}
-use Rattle.netlist.proofs.CellBytes.{cell-sort, same-sort}
+use Rattle.netlist.proofs.CellBytes.{cell-sort}
+use Rattle.tagged.proofs.SortLaws.{same-sort}
 
 -- the variants of a sort but a drive, as a match counts them
 abbrev butDrive : List ℕ

@@ -11,21 +11,21 @@ use Rattle.tagged.specs.Limits.{longestNetlist}
 use Rattle.tagged.specs.Fields.{passedBytes, unplaced, placedBy}
 use Rattle.tagged.specs.Files.{fileAnswer}
 use Rattle.tagged.specs.Refusals.{firstBroken, orElse}
-use Rattle.tagged.specs.Declarations.{declarationBytes, declarationsStep, declarationsAt, declarationsIn, declarationBreaks, declarationBroken, afterDeclarations}
+use Rattle.tagged.specs.Declarations.{declarationsStep, declarationsAt, declarationsIn, declarationBreaks, declarationBroken, afterDeclarations}
 use Rattle.tagged.specs.declared.answers.Answer.the-variants as Answer
 use Rattle.tagged.specs.declared.answers.Found.{Found}
 use Rattle.tagged.specs.declared.answers.Found.the-variants as Found
 use Rattle.tagged.specs.declared.answers.Rule.{Rule}
 use Rattle.tagged.specs.declared.answers.Rule.the-variants as Rule
 use Rattle.tagged.specs.declared.fields.Step.the-variants as Step
+use Rattle.tagged.proofs.FileLaws.{file-fits}
+use Rattle.tagged.proofs.DeclarationSizes.{variables-few}
 use Rattle.netlist.specs.Lists.{Netlist}
 use Rattle.netlist.specs.Form.{cellBytes, driveBytes, cellsStep, netlistForm}
 use Rattle.netlist.specs.Reading.{cellsAt, drivesAt, listsIn, netlistIn}
 use Rattle.netlist.specs.Rules.{cellBreaks, driveBreaks, wholeBroken, cellsBase, drivesBase, netlistBroken}
 use Rattle.netlist.specs.RuleTests.{mostListed}
-use Rattle.netlist.proofs.NetlistBytes.{PayloadRead, file-fits, written-read}
-use Rattle.netlist.proofs.PassLaws.{placed-passes}
-use Rattle.netlist.proofs.RulesFit.{declarations-count}
+use Rattle.netlist.proofs.NetlistBytes.{PayloadRead, written-read}
 use Rattle.netlist.proofs.RuleLaws.{found-first, found-second, few-cells, names-alone, counts-alone}
 
 -- what is known of a slice's bytes
@@ -62,9 +62,7 @@ module _ (file : List ℕ) (bytes : AllBytes file) (accepted : fileAnswer longes
 
     pub few-declared : found ≡ firstBroken (declarationBreaks Rule.Count) [] (declarationsAt 3 payload) → found ≡ Found.Nowhere
         → length (netlistIn file .declarations) ≤ 64
-    few-declared e none =
-        declarations-count (netlistIn file .declarations)
-        (placed-passes (declarationBreaks Rule.Count) declarationBytes 3 (netlistIn file .declarations) (sym (declared-place Rule.Count) ∙ sym e ∙ none))
+    few-declared e none = variables-few 3 (netlistIn file .declarations) (sym (declared-place Rule.Count) ∙ sym e ∙ none)
 
   -- the rule is broken by a declaration
   pub declared-first : (rule : Rule) (found : Found) (place : ℕ) → found ≡ firstBroken (declarationBreaks rule) [] (declarationsAt 3 payload) → found ≡ Found.At place →

@@ -1,7 +1,7 @@
 -- Many cycles: if one cycle never stops on a row that fits and leaves one that fits, then no run of cycles with fitting input rows stops.
 -- By induction on the declarations and on the input rows. It speaks of any cycle, of a module's or a netlist's.
 use mathlib.Core.Path.{_≡_, refl, ap}
-use mathlib.Core.Bool.{Bool, true, _&&_, false≢true, and-eq-true-iff}
+use mathlib.Core.Bool.{true, false≢true}
 use mathlib.Core.List.{List, [], _∷_, map, List·Memᴰ, List·Memᴰ·head, List·Memᴰ·tail}
 use Prim.Native.Nat.{ℕ, zero, suc, _^_, _<_}
 use lib.ListN.{length, getD, set}
@@ -11,10 +11,7 @@ use Rattle.words.specs.Values.{Outcome, got}
 use Rattle.tagged.specs.Declarations.{Declaration, input, register, widthOf}
 use Rattle.tagged.specs.Rows.{allFit}
 use Rattle.tagged.specs.Cycles.{withInputs, inputWidths, inputsFit, cyclesBy}
-
--- both of two tests that hold together
-both : (a b : Bool) → (a && b) ≡ true → (a ≡ true) × (b ≡ true)
-both a b e = and-eq-true-iff a b .0 e
+use Rattle.tagged.proofs.TestLaws.{both}
 
 -- a row that fits, with inputs that fit, fits
 pub with-inputs-fits : (ds : List Declaration) (inputs row : List ℕ) → inputsFit ds inputs ≡ true → allFit (map widthOf ds) row ≡ true →

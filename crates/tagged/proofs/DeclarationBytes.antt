@@ -1,28 +1,30 @@
 -- Declarations and their bytes give each other back: what is read without a fault is written as it stood, at its places,
--- and a list whose numbers fit their bytes is read as it was.
+-- wherever they stand, and a list whose numbers fit their bytes is read as it was.
 use mathlib.Core.Path.{_≡_, refl, sym, ap, ap₂, _∙_, subst}
 use mathlib.Core.Bool.{Bool, true, false}
 use mathlib.Core.List.{List, [], _∷_, _++_}
-use Prim.Native.Nat.{ℕ, _^_, _≤_, _<_}
+use Prim.Native.Nat.{ℕ, _+_, _^_, _≤_, _<_}
 use native.Mathlib.Omega.{arith}
 use lib.Dec.{ltb}
-use lib.ListN.{length, take}
+use lib.ListN.{length, take, drop}
 use borrow.Author.Tests.{ltb-true, ltb-false}
 use Rattle.tagged.specs.Bytes.{AllBytes, fourBytes, fourOf}
 use Rattle.tagged.specs.Sorts.{tagOf, isDeclaration}
-use Rattle.tagged.specs.Fields.{fieldBytes, allBytesOf, unplaced, placedBy}
-use Rattle.tagged.specs.Declarations.{Declaration, input, register, declarationPayload, declarationBytes, fixedBytes, declarationBody, declarationsStep, declarationIn, declarationRead, declarationsAt, declarationsIn, initialOf}
+use Rattle.tagged.specs.Fields.{fieldBytes, allBytesOf, placedBy, fieldBy, fixedThen, anyBytes, passedBytes}
+use Rattle.tagged.specs.Declarations.{Declaration, input, register, declarationPayload, declarationBytes, fixedBytes, declarationBody, declarationsStep, declarationIn, declarationRead, declarationsAt, declarationsIn, afterDeclarations, initialOf}
 use Rattle.tagged.specs.declared.sorts.DeclarationSort.{DeclarationSort}
 use Rattle.tagged.specs.declared.sorts.DeclarationSort.the-variants as DeclarationSort
 use Rattle.tagged.specs.declared.sorts.Sort.{Sort}
 use Rattle.tagged.specs.declared.sorts.Sort.the-variants as Sort
 use Rattle.tagged.specs.declared.fields.Judged.{Judged}
 use Rattle.tagged.specs.declared.fields.Judged.the-variants as Judged
+use Rattle.tagged.specs.declared.fields.Step.{Step}
 use Rattle.tagged.specs.declared.fields.Step.the-variants as Step
 use Rattle.tagged.proofs.ByteLaws.{bytes-four, four-back}
-use Rattle.tagged.proofs.ListLaws.{read-anywhere}
-use Rattle.tagged.proofs.ListBytes.{Stops, Each, Stands, many-run, run-read, list-many, list-read, placed-unplaced}
-use Rattle.tagged.proofs.DeclarationLaws.{declaration-sort, sort-in, body-short, body-fine}
+use Rattle.tagged.proofs.ListBytes.{Stops, Each, Stands, many-run, list-many, list-read}
+use Rattle.tagged.proofs.RunLaws.{run-listed}
+use Rattle.tagged.proofs.AnyPlace.{AnywhereBody, field-anywhere, fixed-anywhere, many-anywhere}
+use Rattle.tagged.proofs.DeclarationLaws.{declaration-sort, sort-in, body-short, body-fine, other-sort}
 
 known : (s : Sort) → isDeclaration s ≡ true → tagOf s ≡ 0 → ⊥
 unfolding tagOf
@@ -74,13 +76,33 @@ pub declarations-read : (base owner : ℕ) (l : List ℕ) (m : ℕ) → AllBytes
 unfolding declarationsStep declarationsAt
 declarations-read base owner l m h e =
     let run = many-run isDeclaration declarationBody (length l) base owner l m (omega arith) e in
-    let r = run-read isDeclaration declarationBody declarationRead declarationBytes known back h run in
-    let items : r .items ≡ declarationsIn l = sym (ap unplaced (r .reads) ∙ placed-unplaced declarationBytes base (r .items)) ∙ read-anywhere isDeclaration declarationRead 0 base 0 l in
-    record {
-      places = r .reads ∙ ap (placedBy declarationBytes base) items;
-      written = r .written ∙ ap (allBytesOf declarationBytes) items;
-      within = r .within;
-    }
+    let r = run-listed isDeclaration declarationBody declarationRead declarationBytes known back h run in
+    record { places = r .places; written = r .written; within = r .within }
+
+-- declarations have a fault or not wherever they stand
+pub declaration-anywhere : AnywhereBody declarationBody
+unfolding declarationBody
+declaration-anywhere a b s l fine = go (isDeclaration s) refl
+  where
+    judge : ℕ → DeclarationSort → Judged
+    judge at d = fixedThen (fixedBytes d) anyBytes (at + 3) at l
+
+    go : (t : Bool) → isDeclaration s ≡ t → declarationBody b s l ≡ Judged.Fine
+    go true is =
+        let f = declaration-sort s is in
+        let here : judge a (f .0) ≡ Judged.Fine = subst (λ (s : Sort). declarationBody a s l ≡ Judged.Fine) (f .1) fine in
+        rw (f .1) (fixed-anywhere (fixedBytes (f .0)) anyBytes (λ a o b p l e. refl) (a + 3) a (b + 3) b l here)
+    go false off = absurd (let q = other-sort s (judge a) (Judged.Refused a) off in let z : _≡_ {A = ℕ} 0 1 = cc in omega arith)
+
+-- a step over declarations counts the same bytes anywhere
+pub declarations-anywhere : (base owner : ℕ) (l : List ℕ) (m : ℕ) → declarationsStep base owner l ≡ Step.Past m → declarationsStep 0 0 l ≡ Step.Past m
+unfolding declarationsStep
+declarations-anywhere base owner l m e =
+    many-anywhere isDeclaration (fieldBy declarationBody) (field-anywhere declarationBody declaration-anywhere) base owner 0 0 l m e
+
+-- what follows the declarations that were passed
+pub after-declared : (base owner : ℕ) (l : List ℕ) (m : ℕ) → declarationsStep base owner l ≡ Step.Past m → afterDeclarations l ≡ drop m l
+after-declared base owner l m e = ap (λ (s : Step). drop (passedBytes s) l) (declarations-anywhere base owner l m e)
 
 -- a declaration whose numbers fit their bytes
 unfoldable pub Writable : Declaration → Type 0

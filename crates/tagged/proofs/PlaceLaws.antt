@@ -1,4 +1,5 @@
--- In a list with the places that its bytes have, places rise: the first place that breaks a rule is the least. By induction on the list.
+-- In a list with the places that its bytes have, places rise: the first place that breaks a rule is the least; and each element stands somewhere.
+-- By induction on the list.
 use mathlib.Core.Path.{_≡_, refl, sym, ap, _∙_}
 use mathlib.Core.Bool.{Bool, true, false, true≢false}
 use mathlib.Core.List.{List, [], _∷_, List·Memᴰ, List·Memᴰ·head, List·Memᴰ·tail}
@@ -112,3 +113,8 @@ module _ {A : Type 0} (bytes : A → List ℕ) where
   index-stands base (a ∷ l) (suc i) h =
       let s = index-stands (base + length (bytes a)) l i (omega arith) in
       record { before = a ∷ s .before; place = s .place; what = s .what; stands = next (s .stands); index = ap suc (s .index); among = List·Memᴰ·tail (s .among) }
+
+-- each element of a list with places stands at its place
+pub placed-stands : {A : Type 0} (l : List (Placed A)) {x : Placed A} → List·Memᴰ x l → (before : List A) × Stands l before (x .place) (x .what)
+placed-stands (y ∷ l) (List·Memᴰ·head e) = ([], first (ap (λ z. z .place) (sym e)) (ap (λ z. z .what) (sym e)))
+placed-stands (y ∷ l) (List·Memᴰ·tail m) = let s = placed-stands l m in (y .what ∷ s .0, next (s .1))

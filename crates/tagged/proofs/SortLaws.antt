@@ -1,11 +1,11 @@
--- The laws of the table of tags: what each range begins, and that tags and sorts give each other back.
-use mathlib.Core.Path.{_≡_, refl, ap, _∙_}
+-- The laws of the table of tags: what each range begins, that tags and sorts give each other back, and that the test of one sort names it.
+use mathlib.Core.Path.{_≡_, refl, sym, ap, _∙_}
 use mathlib.Core.Bool.{Bool, true, false, _&&_, _||_, false≢true}
 use Prim.Native.Nat.{ℕ, zero, suc, _≤_, _<_}
 use native.Mathlib.Decide.{decLt}
 use native.Mathlib.Omega.{arith}
 use lib.Dec.{eqb}
-use borrow.Author.Tests.{eqb-true}
+use borrow.Author.Tests.{eqb-true, eq-eqb}
 use Rattle.words.specs.declared.OneOperand.the-variants as one
 use Rattle.words.specs.declared.TwoOperand.the-variants as two
 use Rattle.tagged.specs.declared.sorts.DeclarationSort.{DeclarationSort}
@@ -20,7 +20,7 @@ use Rattle.tagged.specs.declared.sorts.CellSort.the-variants as CellSort
 use Rattle.tagged.specs.declared.sorts.Sort.{Sort}
 use Rattle.tagged.specs.declared.sorts.Sort.the-variants as Sort
 use Rattle.tagged.proofs.RangeLaws.{range-above, range-below, range-within}
-use Rattle.tagged.specs.Sorts.{declarationSort, statementSort, expressionSort, cellSort, sortOf, tagOf, declarationTag, statementTag, expressionTag, cellTag}
+use Rattle.tagged.specs.Sorts.{declarationSort, statementSort, expressionSort, cellSort, sortOf, tagOf, isSort, declarationTag, statementTag, expressionTag, cellTag}
 
 -- what a range begins
 pub sort-declaration : (t : ℕ) → 0x02 ≤ t → t < 0x04 → sortOf t ≡ Sort.Declaration (declarationSort t)
@@ -185,3 +185,11 @@ tag-back t known = go (decLt t 0x82)
     go : Dec (t < 0x82) → tagOf (sortOf t) ≡ t
     go (yes k) = pick (eqb (tagOf (sortOf t)) t) refl (agrees-below 0x82 t all-agree k)
     go (no k) = absurd (known (ap tagOf (unknown-82 t (omega arith))))
+
+-- the test that names one sort
+pub is-itself : (a : Sort) → isSort a a ≡ true
+is-itself a = eq-eqb (tagOf a) (tagOf a) refl
+
+-- a sort with the tag of another is that
+pub same-sort : (a b : Sort) → isSort a b ≡ true → b ≡ a
+same-sort a b is = sym (sort-back b) ∙ ap sortOf (sym (eqb-true (tagOf a) (tagOf b) is)) ∙ sort-back a

@@ -1,6 +1,6 @@
 -- What tests joined by "and", "or" and "not" say of their parts, and numbers that a test finds unlike. By cases on the tests.
 use mathlib.Core.Path.{_≡_, refl}
-use mathlib.Core.Bool.{Bool, true, false, _&&_, _||_, not, and-false, true≢false}
+use mathlib.Core.Bool.{Bool, true, false, _&&_, _||_, not, and-false, and-eq-true-iff, true≢false}
 use Prim.Native.Nat.{ℕ}
 use lib.Dec.{eqb}
 use borrow.Author.Tests.{eqb-false, ne-eqb, not-true}
@@ -16,6 +16,10 @@ or-right false e = e
 pub or-cases : {C : Type 0} (a b : Bool) → (a || b) ≡ true → (a ≡ true → C) → (b ≡ true → C) → C
 or-cases true b e f g = f refl
 or-cases false b e f g = g e
+
+-- both of two tests hold
+pub both : (a b : Bool) → (a && b) ≡ true → (a ≡ true) × (b ≡ true)
+both a b e = and-eq-true-iff a b .0 e
 
 -- neither of two tests holds
 pub neither : (a b : Bool) → (a || b) ≡ false → (a ≡ false) × (b ≡ false)

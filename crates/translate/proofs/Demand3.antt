@@ -27,7 +27,7 @@ use Rattle.netlist.specs.Fits.{WithoutRefusal}
 use Rattle.verilog.proofs.AcceptedTyped.{accepted-typed}
 use Rattle.verilog.proofs.NeverStops.{typed-cycles-run, typed-cycles-quiet}
 use Rattle.translate.specs.Answer.{netlistOfFile, translatedBytes, cellCount}
-use Rattle.translate.proofs.AcceptedModule.{accepted-tree}
+use Rattle.verilog.proofs.AcceptedModule.{accepted-tree}
 use Rattle.translate.proofs.NetlistAccepted.{file-netlist-accepted}
 use Rattle.translate.proofs.AgreesAlways.{agrees-always}
 

@@ -20,7 +20,7 @@ use Rattle.verilog.specs.Tree.{Module}
 use Rattle.verilog.specs.Cycle.{delaysAny}
 use Rattle.translate.specs.Tables.{Tables, operandAt}
 use Rattle.translate.specs.Translation.{drivesOf}
-use Rattle.translate.proofs.Passing.{EachAfter, none-after, more-after}
+use Rattle.tagged.proofs.PassLaws.{EachAfter, none-after, more-after}
 use Rattle.translate.proofs.Operands.{GoodOperand, equal-not}
 use Rattle.translate.proofs.ExpressionCells.{held-good}
 use Rattle.translate.proofs.MergeCells.{GoodTables}

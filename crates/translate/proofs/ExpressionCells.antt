@@ -18,7 +18,7 @@ use Rattle.verilog.specs.Rules.{expressionWidth}
 use Rattle.verilog.proofs.Typed.{Typed, constant-fits, variable-there, bit-inside, index-inside, one-typed, two-typed}
 use Rattle.translate.specs.Tables.{operandAt}
 use Rattle.translate.specs.Translation.{Emitted, withCell, translateExpression}
-use Rattle.translate.proofs.Passing.{EachAfter, none-after, one-after, each-append}
+use Rattle.tagged.proofs.PassLaws.{EachAfter, none-after, one-after, each-append}
 use Rattle.translate.proofs.Operands.{GoodOperand, good-more, constant-good, cell-good, GoodTable, table-more, table-at}
 use Rattle.translate.proofs.CellsPass.{CellPasses, one-passes, two-passes, fixed-passes, chosen-passes}
 

@@ -12,7 +12,7 @@ use Rattle.netlist.specs.declared.Cell.{Cell}
 use Rattle.netlist.specs.declared.Cell.the-variants as Cell
 use Rattle.translate.specs.Tables.{Tables, sameOperand, Merged, kept, muxed, merge, Translated, mergeTables}
 use Rattle.translate.specs.Translation.{after, joined}
-use Rattle.translate.proofs.Passing.{EachAfter, none-after, more-after, each-append}
+use Rattle.tagged.proofs.PassLaws.{EachAfter, none-after, more-after, each-append}
 use Rattle.translate.proofs.Operands.{GoodOperand, good-more, good-width, cell-good, GoodTable, no-operands, more-operands, table-more}
 use Rattle.translate.proofs.CellsPass.{CellPasses, mux-passes}
 

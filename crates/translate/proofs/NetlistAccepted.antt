@@ -8,7 +8,6 @@ use lib.ListN.{length}
 use borrow.Author.Tests.{le-ltb}
 use Rattle.tagged.specs.Limits.{mostCells}
 use Rattle.tagged.specs.Fields.{placedBy}
-use Rattle.tagged.specs.Refusals.{firstBroken, firstRefusal}
 use Rattle.tagged.specs.Declarations.{Declaration, declarationBytes, declarationBreaks, declarationBroken}
 use Rattle.tagged.specs.declared.answers.Rule.{Rule}
 use Rattle.tagged.specs.declared.answers.Rule.the-variants as Rule
@@ -18,7 +17,7 @@ use Rattle.tagged.specs.declared.answers.Found.{Found}
 use Rattle.tagged.specs.declared.answers.Found.the-variants as Found
 use Rattle.netlist.specs.Lists.{Netlist}
 use Rattle.netlist.specs.Form.{cellBytes, driveBytes}
-use Rattle.netlist.specs.Rules.{cellBreaks, driveBreaks, registersFrom, wholeBroken, cellsBase, drivesBase, netlistBroken}
+use Rattle.netlist.specs.Rules.{cellBreaks, driveBreaks, registersFrom, wholeBroken, cellsBase, drivesBase}
 use Rattle.netlist.specs.Answer.{listsAnswer}
 use Rattle.netlist.specs.declared.Cell.{Cell}
 use Rattle.netlist.specs.declared.Drive.{Drive}
@@ -28,9 +27,11 @@ use Rattle.verilog.specs.Reading.{moduleIn}
 use Rattle.verilog.specs.Answer.{moduleAnswer}
 use Rattle.translate.specs.Answer.{cellCount, netlistOfFile}
 use Rattle.translate.specs.Translation.{translatedModule, netlistOf}
-use Rattle.translate.proofs.Passing.{EachAfter, each-always, each-nowhere}
-use Rattle.translate.proofs.DeclarationsKept.{DeclarationsPass}
-use Rattle.translate.proofs.AcceptedModule.{accepted-declarations}
+use Rattle.netlist.proofs.PassedRules.{cellBroken, driveBroken, RulesPass, rules-accepted}
+use Rattle.tagged.proofs.PassLaws.{EachAfter, each-nowhere}
+use Rattle.tagged.proofs.RefusalLaws.{passes-nowhere}
+use Rattle.verilog.proofs.DeclarationsKept.{DeclarationsPass}
+use Rattle.verilog.proofs.AcceptedModule.{accepted-declarations}
 use Rattle.translate.proofs.CellsPass.{CellPasses}
 use Rattle.translate.proofs.StatementCells.{translated-good}
 use Rattle.translate.proofs.DrivesPass.{DrivePasses, drives-pass, drives-length}
@@ -42,70 +43,71 @@ pub record NetlistPasses (n : Netlist) : Type 0 where
   pub driven : length (n .drives) ≡ length (registersFrom 0 (n .declarations))
   pub few : length (n .cells) ≤ mostCells
 
--- no list and not the whole netlist has a place
-pub all-nowhere : (base : ℕ) (n : Netlist) (rule : Rule) → declarationBroken rule base (n .declarations) ≡ Found.Nowhere →
-    firstBroken (cellBreaks rule (n .declarations)) [] (placedBy cellBytes (cellsBase base n) (n .cells)) ≡ Found.Nowhere →
-    firstBroken (driveBreaks rule (n .declarations) (n .cells)) [] (placedBy driveBytes (drivesBase base n) (n .drives)) ≡ Found.Nowhere →
-    wholeBroken rule n ≡ Found.Nowhere → netlistBroken base n rule ≡ Found.Nowhere
-unfolding netlistBroken
-all-nowhere base n rule d c r w = rw (d, c, r, w)
-
 module _ (base : ℕ) (n : Netlist) (d : DeclarationsPass base (n .declarations)) (p : NetlistPasses n) where
   -- a rule that each cell passes, or that no cell breaks; and so for drives and declarations
   cells-nowhere : (rule : Rule) → ((earlier : List Cell) (c : Cell) → CellPasses (n .declarations) earlier c → cellBreaks rule (n .declarations) earlier c ≡ false) →
-      firstBroken (cellBreaks rule (n .declarations)) [] (placedBy cellBytes (cellsBase base n) (n .cells)) ≡ Found.Nowhere
+      cellBroken rule base n ≡ Found.Nowhere
   cells-nowhere rule h = each-nowhere (cellBreaks rule (n .declarations)) cellBytes h (cellsBase base n) (p .cells)
 
   drives-nowhere : (rule : Rule) →
       ((earlier : List Drive) (c : Drive) → DrivePasses (n .declarations) (n .cells) earlier c → driveBreaks rule (n .declarations) (n .cells) earlier c ≡ false) →
-      firstBroken (driveBreaks rule (n .declarations) (n .cells)) [] (placedBy driveBytes (drivesBase base n) (n .drives)) ≡ Found.Nowhere
+      driveBroken rule base n ≡ Found.Nowhere
   drives-nowhere rule h = each-nowhere (driveBreaks rule (n .declarations) (n .cells)) driveBytes h (drivesBase base n) (p .drives)
 
   declarations-nowhere : (rule : Rule) → ((earlier : List Declaration) (c : Declaration) → declarationBreaks rule earlier c ≡ false) →
       declarationBroken rule base (n .declarations) ≡ Found.Nowhere
-  declarations-nowhere rule h =
-      each-nowhere (declarationBreaks rule) declarationBytes (λ e c p. p) base (each-always {Pass = λ e c. declarationBreaks rule e c ≡ false} h [] (n .declarations))
+  declarations-nowhere rule h = passes-nowhere (declarationBreaks rule) [] (placedBy declarationBytes base (n .declarations)) (λ before p c s. h before c)
 
-  value-nowhere : netlistBroken base n Rule.Value ≡ Found.Nowhere
-  unfolding wholeBroken
-  value-nowhere = all-nowhere base n Rule.Value (d .value) (cells-nowhere Rule.Value (λ e c h. h .value)) (drives-nowhere Rule.Value (λ e c h. h .value)) refl
-
-  name-nowhere : netlistBroken base n Rule.Name ≡ Found.Nowhere
-  unfolding wholeBroken cellBreaks driveBreaks
-  name-nowhere = all-nowhere base n Rule.Name (d .name) (cells-nowhere Rule.Name (λ e c h. refl)) (drives-nowhere Rule.Name (λ e c h. refl)) refl
-
-  count-nowhere : netlistBroken base n Rule.Count ≡ Found.Nowhere
-  unfolding wholeBroken cellBreaks driveBreaks
-  count-nowhere = all-nowhere base n Rule.Count (d .count) (cells-nowhere Rule.Count (λ e c h. refl)) (drives-nowhere Rule.Count (λ e c h. refl)) refl
-
-  reference-nowhere : netlistBroken base n Rule.Reference ≡ Found.Nowhere
-  unfolding wholeBroken declarationBreaks
-  reference-nowhere =
-      all-nowhere base n Rule.Reference (declarations-nowhere Rule.Reference (λ e c. refl)) (cells-nowhere Rule.Reference (λ e c h. h .reference))
-      (drives-nowhere Rule.Reference (λ e c h. h .reference))
-      (rw (le-ltb (length (n .drives)) (length (registersFrom 0 (n .declarations))) (omega (arith, p .driven))))
-
-  widths-nowhere : netlistBroken base n Rule.Widths ≡ Found.Nowhere
-  unfolding wholeBroken declarationBreaks
-  widths-nowhere =
-      all-nowhere base n Rule.Widths (declarations-nowhere Rule.Widths (λ e c. refl)) (cells-nowhere Rule.Widths (λ e c h. h .widths))
-      (drives-nowhere Rule.Widths (λ e c h. h .widths)) refl
-
-  bit-nowhere : netlistBroken base n Rule.BitNumber ≡ Found.Nowhere
-  unfolding wholeBroken declarationBreaks driveBreaks
-  bit-nowhere =
-      all-nowhere base n Rule.BitNumber (declarations-nowhere Rule.BitNumber (λ e c. refl)) (cells-nowhere Rule.BitNumber (λ e c h. h .bit))
-      (drives-nowhere Rule.BitNumber (λ e c h. refl)) refl
-
-  few-nowhere : netlistBroken base n Rule.Cells ≡ Found.Nowhere
+  -- so every rule that is looked for passes
+  rules-pass : RulesPass base n
   unfolding wholeBroken declarationBreaks cellBreaks driveBreaks
-  few-nowhere =
-      all-nowhere base n Rule.Cells (declarations-nowhere Rule.Cells (λ e c. refl)) (cells-nowhere Rule.Cells (λ e c h. refl))
-      (drives-nowhere Rule.Cells (λ e c h. refl)) (rw (le-ltb mostCells (length (n .cells)) (p .few)))
+  rules-pass = record {
+    value = record {
+      declarations = d .value;
+      cells = cells-nowhere Rule.Value (λ e c h. h .value);
+      drives = drives-nowhere Rule.Value (λ e c h. h .value);
+      whole = refl;
+    };
+    name = record {
+      declarations = d .name;
+      cells = cells-nowhere Rule.Name (λ e c h. refl);
+      drives = drives-nowhere Rule.Name (λ e c h. refl);
+      whole = refl;
+    };
+    count = record {
+      declarations = d .count;
+      cells = cells-nowhere Rule.Count (λ e c h. refl);
+      drives = drives-nowhere Rule.Count (λ e c h. refl);
+      whole = refl;
+    };
+    reference = record {
+      declarations = declarations-nowhere Rule.Reference (λ e c. refl);
+      cells = cells-nowhere Rule.Reference (λ e c h. h .reference);
+      drives = drives-nowhere Rule.Reference (λ e c h. h .reference);
+      whole = rw (le-ltb (length (n .drives)) (length (registersFrom 0 (n .declarations))) (omega (arith, p .driven)));
+    };
+    widths = record {
+      declarations = declarations-nowhere Rule.Widths (λ e c. refl);
+      cells = cells-nowhere Rule.Widths (λ e c h. h .widths);
+      drives = drives-nowhere Rule.Widths (λ e c h. h .widths);
+      whole = refl;
+    };
+    bits = record {
+      declarations = declarations-nowhere Rule.BitNumber (λ e c. refl);
+      cells = cells-nowhere Rule.BitNumber (λ e c h. h .bit);
+      drives = drives-nowhere Rule.BitNumber (λ e c h. refl);
+      whole = refl;
+    };
+    cells = record {
+      declarations = declarations-nowhere Rule.Cells (λ e c. refl);
+      cells = cells-nowhere Rule.Cells (λ e c h. refl);
+      drives = drives-nowhere Rule.Cells (λ e c h. refl);
+      whole = rw (le-ltb mostCells (length (n .cells)) (p .few));
+    };
+  }
 
   pub passes-accepted : listsAnswer base n ≡ Answer.Accepted
-  unfolding listsAnswer firstRefusal
-  passes-accepted = rw (value-nowhere, name-nowhere, count-nowhere, reference-nowhere, widths-nowhere, bit-nowhere, few-nowhere)
+  passes-accepted = rules-accepted rules-pass
 
 -- what translation gives passes
 pub translation-passes : (m : Module) → TypedModule m → length (netlistOf m .cells) ≤ mostCells → NetlistPasses (netlistOf m)

@@ -26,7 +26,7 @@ use Rattle.verilog.specs.Reading.{moduleIn}
 use Rattle.verilog.specs.Rules.{moduleBroken}
 use Rattle.verilog.specs.Answer.{moduleRules, treeAnswer, moduleAnswer}
 use Rattle.translate.specs.Answer.{translatedBytes, cellCount, afterCheck, translateAnswer, largestNetlist}
-use Rattle.translate.proofs.AcceptedModule.{accepted-declarations}
+use Rattle.verilog.proofs.AcceptedModule.{accepted-declarations}
 use Rattle.translate.proofs.Largest.{largest}
 
 -- an answer that is not refusal 13

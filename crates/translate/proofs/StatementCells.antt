@@ -18,7 +18,7 @@ use Rattle.verilog.specs.Tree.{Statement, Block, Items, Module}
 use Rattle.verilog.proofs.Typed.{TypedStatement, assign-typed, assignBit-typed, ifElse-typed, case-typed, TypedBlock, end-typed, then-typed, TypedItems, default-typed, item-typed, TypedAll, none-typed, more-typed, TypedModule}
 use Rattle.translate.specs.Tables.{Tables, heldOperand, replaced, Translated}
 use Rattle.translate.specs.Translation.{Emitted, withCell, translateExpression, translateStatement, translateBlock, translateItems, translateAll, translatedModule}
-use Rattle.translate.proofs.Passing.{none-after, one-after}
+use Rattle.tagged.proofs.PassLaws.{none-after, one-after}
 use Rattle.translate.proofs.Operands.{no-register-beyond, GoodOperand, good-more, good-width, constant-good, cell-good, table-set, themselves-good}
 use Rattle.translate.proofs.CellsPass.{CellPasses, two-passes, put-passes}
 use Rattle.translate.proofs.ExpressionCells.{GoodEmitted, with-cell-good, held-good, expression-good}

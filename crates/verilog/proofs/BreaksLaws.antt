@@ -1,189 +1,37 @@
 -- The relation `Breaks`, in the words of document 01, holds of a place exactly when the test `breaks` is true of the field that stands there.
--- By the constructors one way, by the rule and the field's shape the other; "earlier" and "at a smaller place" agree, since places rise.
-use mathlib.Core.Path.{_≡_, refl, sym, ap, _∙_}
-use mathlib.Core.Bool.{Bool, true, false, _&&_, _||_, not, false≢true, true≢false, or-true, and-false, and-eq-true-iff}
+-- By the constructors one way, by the rule and the field's shape the other (declarations by DeclarationTests); "earlier" and "at a smaller place" agree, since places rise.
+use mathlib.Core.Path.{_≡_, refl, sym, ap}
+use mathlib.Core.Bool.{Bool, true, false, _&&_, not, false≢true, true≢false, and-eq-true-iff}
 use mathlib.Core.List.{List, [], _∷_, List·Memᴰ, List·Memᴰ·head, List·Memᴰ·tail}
 use mathlib.Core.Logic.{_⊎_, inl, inr, _↔_}
 use Prim.Native.Nat.{ℕ, zero, suc, _^_, _≤_, _<_}
 use native.Mathlib.Omega.{arith}
 use lib.Dec.{leb, eqb}
 use lib.ListN.{length}
-use borrow.Author.Tests.{ltb-false, leb-true, leb-false, eqb-true, eqb-false, not-true, le-ltb, le-leb, lt-leb, eq-eqb, ne-eqb}
-use Rattle.words.specs.Limits.{greatestWidth}
+use borrow.Author.Tests.{leb-true, leb-false, eqb-true, not-true, le-leb, lt-leb, eq-eqb, ne-eqb}
 use Rattle.words.specs.Widths.{isWidth, fitsWidth, indexWithin}
-use Rattle.tagged.specs.Choice.{inRange}
-use Rattle.tagged.specs.Limits.{longestName, mostVariables, mostProcesses}
+use Rattle.tagged.specs.Limits.{mostProcesses}
 use Rattle.tagged.specs.Fields.{unplaced}
-use Rattle.tagged.specs.Names.{isDigit, isNameByte, allNameBytes, isName, sameName}
 use Rattle.tagged.specs.Stands.{Stands}
-use Rattle.tagged.specs.Declarations.{Declaration, input, register, widthOf, nameOf, isRegister, registerAt, variableWidth}
-use Rattle.tagged.specs.Declarations.{valueBroken, nameTaken, nameBroken, countBroken}
+use Rattle.tagged.specs.Declarations.{Declaration, input, register, isRegister, registerAt, variableWidth}
+use Rattle.tagged.specs.Declarations.{valueBroken, nameBroken, countBroken, declarationBreaks}
 use Rattle.tagged.specs.declared.sorts.Kind.{Kind}
 use Rattle.tagged.specs.declared.sorts.Kind.the-variants as Kind
 use Rattle.tagged.specs.declared.answers.Rule.{Rule}
 use Rattle.tagged.specs.declared.answers.Rule.the-variants as Rule
-use Rattle.tagged.proofs.NameLaws.{byte-digit, byte-upper, byte-lower, byte-underscore, same-refl, same-equal}
+use Rattle.tagged.proofs.TestLaws.{or-left, or-right, or-cases, unlike, unlike-ne}
+use Rattle.tagged.proofs.DeclarationTests.{no-width, width-no, not-fits, fits-not, phrase-tested, tested-phrase}
 use Rattle.tagged.proofs.RiseLaws.{before-earlier, earlier-before, stands-in, in-stands}
 use Rattle.verilog.specs.Tree.{Expression, constant, variable, fixedBit, chosenBit, one, two, Statement, assign, assignBit, ifElse, case, Module}
 use Rattle.verilog.specs.Nodes.{What, declaration, process, expression, statement, itemOf, Node, moduleNodes}
-use Rattle.verilog.specs.Rules.{expressionWidth, withDeclaration, declarationsOf, countProcesses, someNode}
+use Rattle.verilog.specs.Rules.{expressionWidth, declarationsOf, countProcesses, someNode}
 use Rattle.verilog.specs.Rules.{assignsBy, readsBy, byField, isAssignment, isBlocking, sameKind}
 use Rattle.verilog.specs.Rules.{constantBroken, missingVariable, operandsDiffer, statementDiffers, readOutside, writeOutside, breaks}
-use Rattle.verilog.specs.Breaks.{FieldAt, NoWidth, zero-wide, too-wide, NameByte, upper, lower, digit, underscore}
-use Rattle.verilog.specs.Breaks.{Declares, number-zero, number-more, Reads, reads-whole, reads-fixed, reads-chosen, Assigns, assigns-whole, assigns-bit}
-use Rattle.verilog.specs.Breaks.{Breaks, declared-width, initial-value, constant-width, constant-value, name-empty, name-long, name-byte, name-digit, name-twice}
-use Rattle.verilog.specs.Breaks.{variable-over, process-over, read-missing, assigned-missing, assigned-input}
+use Rattle.verilog.specs.Breaks.{FieldAt, Declares, number-zero, number-more, Reads, reads-whole, reads-fixed, reads-chosen, Assigns, assigns-whole, assigns-bit}
+use Rattle.verilog.specs.Breaks.{Breaks, declared, constant-width, constant-value, process-over, read-missing, assigned-missing, assigned-input}
 use Rattle.verilog.specs.Breaks.{value-target, both-operands, item-selector, condition-wide, bit-value-wide}
 use Rattle.verilog.specs.Breaks.{bit-read, bit-assigned, index-wide, both-kinds, two-processes, read-elsewhere}
 use Rattle.verilog.proofs.RisingPlaces.{earlier-smaller-place}
-
--- tests joined by or
-or-cases : (a b : Bool) → a || b ≡ true → (a ≡ true) ⊎ (b ≡ true)
-or-cases true b e = inl refl
-or-cases false b e = inr e
-
-or-second : (a b : Bool) → b ≡ true → a || b ≡ true
-or-second a b e = rw (e, or-true)
-
-range-ends : (low high n : ℕ) → inRange low high n ≡ true → (low ≤ n) × (n ≤ high)
-range-ends low high n e = let f = and-eq-true-iff (leb low n) (leb n high) .0 e in (leb-true low n (f .0), leb-true n high (f .1))
-
--- 3
-no-width : (w : ℕ) → isWidth w ≡ false → NoWidth w
-no-width zero e = zero-wide
-no-width (suc w) e =
-    let some : leb 1 (suc w) ≡ true = le-leb 1 (suc w) (omega arith) in
-    let over : leb (suc w) greatestWidth ≡ false = rw some at e in
-    too-wide (leb-false (suc w) greatestWidth over)
-
-width-none : {w : ℕ} → NoWidth w → isWidth w ≡ false
-width-none zero-wide = refl
-width-none (too-wide {w} h) = rw (lt-leb w greatestWidth h, and-false)
-
-width-broken : (d : Declaration) → NoWidth (widthOf d) → valueBroken d ≡ true
-unfolding valueBroken
-width-broken (input width name) n = rw (width-none n)
-width-broken (register width initial name) n = rw (width-none n)
-
--- 4
-byte-named : (b : ℕ) → isNameByte b ≡ true → NameByte b
-unfolding isNameByte
-byte-named b e = last (or-cases (inRange 0x41 0x5A b || inRange 0x61 0x7A b || isDigit b) (eqb b 0x5F) e)
-  where
-    letter : (inRange 0x41 0x5A b ≡ true) ⊎ (inRange 0x61 0x7A b ≡ true) → NameByte b
-    letter (inl f) = upper (range-ends 0x41 0x5A b f .0) (range-ends 0x41 0x5A b f .1)
-    letter (inr f) = lower (range-ends 0x61 0x7A b f .0) (range-ends 0x61 0x7A b f .1)
-
-    then-digit : (inRange 0x41 0x5A b || inRange 0x61 0x7A b ≡ true) ⊎ (isDigit b ≡ true) → NameByte b
-    then-digit (inl f) = letter (or-cases (inRange 0x41 0x5A b) (inRange 0x61 0x7A b) f)
-    then-digit (inr f) = digit (range-ends 0x30 0x39 b f .0) (range-ends 0x30 0x39 b f .1)
-
-    last : (inRange 0x41 0x5A b || inRange 0x61 0x7A b || isDigit b ≡ true) ⊎ (eqb b 0x5F ≡ true) → NameByte b
-    last (inl f) = then-digit (or-cases (inRange 0x41 0x5A b || inRange 0x61 0x7A b) (isDigit b) f)
-    last (inr f) = rw (eqb-true b 0x5F f) underscore
-
-named-byte : {b : ℕ} → NameByte b → isNameByte b ≡ true
-named-byte (upper {b} h k) = byte-upper b h (omega arith)
-named-byte (lower {b} h k) = byte-lower b h (omega arith)
-named-byte (digit {b} h k) = byte-digit b h (omega arith)
-named-byte underscore = byte-underscore 0x5F refl
-
--- a byte that no name may have is among them
-byte-among : (l : List ℕ) → allNameBytes l ≡ false → (b : ℕ) × List·Memᴰ b l × (NameByte b → ⊥)
-unfolding allNameBytes
-byte-among [] e = absurd (true≢false e)
-byte-among (b ∷ l) e = go (isNameByte b) refl e (byte-among l)
-  where
-    go : (t : Bool) → isNameByte b ≡ t → t && allNameBytes l ≡ false → (allNameBytes l ≡ false → (c : ℕ) × List·Memᴰ c l × (NameByte c → ⊥)) →
-        (c : ℕ) × List·Memᴰ c (b ∷ l) × (NameByte c → ⊥)
-    go true h e ih = let f = ih e in (f .0, List·Memᴰ·tail (f .1), f .2)
-    go false h e ih = (b, List·Memᴰ·head refl, λ n. false≢true (sym h ∙ named-byte n))
-
-among-byte : (l : List ℕ) {b : ℕ} → List·Memᴰ b l → (NameByte b → ⊥) → allNameBytes l ≡ false
-unfolding allNameBytes
-among-byte (c ∷ l) {b} (List·Memᴰ·head e) n = go (isNameByte c) refl
-  where
-    go : (t : Bool) → isNameByte c ≡ t → t && allNameBytes l ≡ false
-    go true h = absurd (n (rw e (byte-named c h)))
-    go false h = refl
-among-byte (c ∷ l) (List·Memᴰ·tail m) n = rw (among-byte l m n, and-false)
-
--- why a list of bytes may be no name
-data NoName : List ℕ → Type 0 where
-  empty : NoName []
-  long : {l : List ℕ} → longestName < length l → NoName l
-  byte : {b : ℕ} {l : List ℕ} → List·Memᴰ b l → (NameByte b → ⊥) → NoName l
-  begins : {b : ℕ} {l : List ℕ} → 0x30 ≤ b → b ≤ 0x39 → NoName (b ∷ l)
-
-no-name : (l : List ℕ) → isName l ≡ false → NoName l
-unfolding isName
-no-name [] e = empty
-no-name (b ∷ l) e = go (leb (length (b ∷ l)) longestName) refl (isDigit b) refl (allNameBytes (b ∷ l)) refl
-    (rw (le-leb 1 (length (b ∷ l)) (omega arith)) at e)
-  where
-    go : (s : Bool) → leb (length (b ∷ l)) longestName ≡ s → (t : Bool) → isDigit b ≡ t → (u : Bool) → allNameBytes (b ∷ l) ≡ u →
-        s && not t && u ≡ false → NoName (b ∷ l)
-    go false x t y u z e = long (leb-false (length (b ∷ l)) longestName x)
-    go true x true y u z e = begins (range-ends 0x30 0x39 b y .0) (range-ends 0x30 0x39 b y .1)
-    go true x false y false z e = let f = byte-among (b ∷ l) z in byte (f .1) (f .2)
-    go true x false y true z e = absurd (true≢false e)
-
-name-none : {l : List ℕ} → NoName l → isName l ≡ false
-unfolding isName
-name-none empty = refl
-name-none (long {l} h) = rw (lt-leb (length l) longestName h, and-false)
-name-none (byte {b} {l} i n) = rw (among-byte l i n, and-false)
-name-none (begins {b} {l} h k) = rw (le-leb 0x30 b h, le-leb b 0x39 k, and-false)
-
--- a name is taken where a declaration has it
-taken-by : (name : List ℕ) (ds : List Declaration) → nameTaken name ds ≡ true → (c : Declaration) × List·Memᴰ c ds × (nameOf c ≡ name)
-unfolding nameTaken
-taken-by name [] e = absurd (false≢true e)
-taken-by name (d ∷ ds) e = go (or-cases (sameName (nameOf d) name) (nameTaken name ds) e) (taken-by name ds)
-  where
-    go : (sameName (nameOf d) name ≡ true) ⊎ (nameTaken name ds ≡ true) →
-        (nameTaken name ds ≡ true → (c : Declaration) × List·Memᴰ c ds × (nameOf c ≡ name)) →
-        (c : Declaration) × List·Memᴰ c (d ∷ ds) × (nameOf c ≡ name)
-    go (inl f) ih = (d, List·Memᴰ·head refl, same-equal (nameOf d) name f)
-    go (inr f) ih = let g = ih f in (g .0, List·Memᴰ·tail (g .1), g .2)
-
-by-taken : (name : List ℕ) (ds : List Declaration) (c : Declaration) → List·Memᴰ c ds → nameOf c ≡ name → nameTaken name ds ≡ true
-unfolding nameTaken
-by-taken name (d ∷ ds) c (List·Memᴰ·head e) same =
-    let f : sameName (nameOf d) name ≡ true = rw (← e, same) (same-refl name) in
-    rw f
-by-taken name (d ∷ ds) c (List·Memᴰ·tail m) same = or-second (sameName (nameOf d) name) (nameTaken name ds) (by-taken name ds c m same)
-
--- the declarations among some fields are theirs
-abbrev declaring : ℕ → Declaration → Node
-declaring i d = record { inProcess = i; what = declaration d }
-
-kept-declaration : (w : What) {c : Declaration} {ds : List Declaration} → List·Memᴰ c ds → List·Memᴰ c (withDeclaration w ds)
-kept-declaration (declaration d) m = List·Memᴰ·tail m
-kept-declaration process m = m
-kept-declaration (expression e) m = m
-kept-declaration (statement s) m = m
-kept-declaration (itemOf e w) m = m
-
-among-declarations : (l : List Node) {i : ℕ} {c : Declaration} → List·Memᴰ (declaring i c) l → List·Memᴰ c (declarationsOf l)
-among-declarations (n ∷ l) (List·Memᴰ·head e) = rw (← e) (List·Memᴰ·head refl)
-among-declarations (n ∷ l) (List·Memᴰ·tail m) = kept-declaration (n .what) (among-declarations l m)
-
-declarations-among : (l : List Node) {c : Declaration} → List·Memᴰ c (declarationsOf l) → (i : ℕ) × List·Memᴰ (declaring i c) l
-declarations-among (n ∷ l) {c} m = go (n .what) refl m (declarations-among l)
-  where
-    later : (i : ℕ) × List·Memᴰ (declaring i c) l → (i : ℕ) × List·Memᴰ (declaring i c) (n ∷ l)
-    later f = (f .0, List·Memᴰ·tail (f .1))
-
-    go : (w : What) → n .what ≡ w → List·Memᴰ c (withDeclaration w (declarationsOf l)) →
-        (List·Memᴰ c (declarationsOf l) → (i : ℕ) × List·Memᴰ (declaring i c) l) → (i : ℕ) × List·Memᴰ (declaring i c) (n ∷ l)
-    go (declaration d) e (List·Memᴰ·head f) ih =
-        (n .inProcess, List·Memᴰ·head (ap (λ (w : What). record { inProcess = n .inProcess; what = w }) (ap declaration f ∙ sym e)))
-    go (declaration d) e (List·Memᴰ·tail m) ih = later (ih m)
-    go process e m ih = later (ih m)
-    go (expression x) e m ih = later (ih m)
-    go (statement s) e m ih = later (ih m)
-    go (itemOf x w) e m ih = later (ih m)
 
 -- 6
 declares-register : {ds : List Declaration} {v : ℕ} {d : Declaration} → Declares ds v d → registerAt ds v ≡ isRegister d
@@ -265,11 +113,10 @@ record Assigned (test : Node → Kind → ℕ → Bool) (l : List Node) : Type 0
 module _ (test : Node → Kind → ℕ → Bool) where
   assigned-among : (l : List Node) → someNode (λ n. isAssignment (test n) n) l ≡ true → Assigned test l
   assigned-among [] h = absurd (false≢true h)
-  assigned-among (n ∷ l) h = go (or-cases (isAssignment (test n) n) (someNode (λ n. isAssignment (test n) n) l) h) (assigned-among l)
+  assigned-among (n ∷ l) h = or-cases (isAssignment (test n) n) (someNode (λ n. isAssignment (test n) n) l) h here (λ h. later (assigned-among l h))
     where
-      go : (isAssignment (test n) n ≡ true) ⊎ (someNode (λ n. isAssignment (test n) n) l ≡ true) →
-          (someNode (λ n. isAssignment (test n) n) l ≡ true → Assigned test l) → Assigned test (n ∷ l)
-      go (inl h) ih =
+      here : isAssignment (test n) n ≡ true → Assigned test (n ∷ l)
+      here h =
           let s = assignment-is (test n) (n .what) h in
           let a = assigns-by (test n) (s .0) (s .2) in
           let same : assigning (n .inProcess) (s .0) ≡ n = ap (λ (w : What). record { inProcess = n .inProcess; what = w }) (sym (s .1)) in
@@ -282,17 +129,17 @@ module _ (test : Node → Kind → ℕ → Bool) where
             assigns = a .2;
             passes = rw same (a .3);
           }
-      go (inr h) ih =
-          let f = ih h in
-          record {
-            number = f .number;
-            text = f .text;
-            kind = f .kind;
-            target = f .target;
-            among = List·Memᴰ·tail (f .among);
-            assigns = f .assigns;
-            passes = f .passes;
-          }
+
+      later : Assigned test l → Assigned test (n ∷ l)
+      later f = record {
+        number = f .number;
+        text = f .text;
+        kind = f .kind;
+        target = f .target;
+        among = List·Memᴰ·tail (f .among);
+        assigns = f .assigns;
+        passes = f .passes;
+      }
 
   among-assigned : (l : List Node) → Assigned test l → someNode (λ n. isAssignment (test n) n) l ≡ true
   among-assigned l f = go l (f .among)
@@ -302,7 +149,7 @@ module _ (test : Node → Kind → ℕ → Bool) where
 
       go : (l : List Node) → List·Memᴰ (assigning (f .number) (f .text)) l → someNode (λ n. isAssignment (test n) n) l ≡ true
       go (n ∷ l) (List·Memᴰ·head e) = let h : isAssignment (test n) n ≡ true = rw (← e) here in rw h
-      go (n ∷ l) (List·Memᴰ·tail m) = or-second (isAssignment (test n) n) (someNode (λ n. isAssignment (test n) n) l) (go l m)
+      go (n ∷ l) (List·Memᴰ·tail m) = or-right (isAssignment (test n) n) (go l m)
 
 -- kinds
 other-kind : (a b : Kind) → sameKind a b ≡ false → a ≡ b → ⊥
@@ -320,9 +167,6 @@ kind-other Kind.NonBlocking Kind.NonBlocking h = absurd (h refl)
 is-blocking : (a : Kind) → isBlocking a ≡ true → a ≡ Kind.Blocking
 is-blocking Kind.Blocking h = refl
 is-blocking Kind.NonBlocking h = absurd (false≢true h)
-
-differ : (a b : ℕ) → not (eqb a b) ≡ true → a ≡ b → ⊥
-differ a b e = eqb-false a b (not-true (eqb a b) e)
 
 -- a field of the module for which the test of this rule is true stands at p
 pub record BrokenAt (m : Module) (k : Rule) (p : ℕ) : Type 0 where
@@ -353,19 +197,11 @@ module _ (m : Module) where
   -- from the test to the relation, rule by rule
   module _ (p i : ℕ) where
     value-breaks : (w : What) → FieldAt m p i w → byField valueBroken false constantBroken (λ s. false) (λ e w. false) w ≡ true → Breaks m Rule.Value p
-    unfolding valueBroken
-    value-breaks (declaration (input width name)) f e = declared-width f (no-width width (not-true (isWidth width) e))
-    value-breaks (declaration (register width initial name)) f e = go (or-cases (not (isWidth width)) (not (fitsWidth width initial)) e)
-      where
-        go : (not (isWidth width) ≡ true) ⊎ (not (fitsWidth width initial) ≡ true) → Breaks m Rule.Value p
-        go (inl h) = declared-width f (no-width width (not-true (isWidth width) h))
-        go (inr h) = initial-value f (ltb-false initial (2 ^ width) (not-true (fitsWidth width initial) h))
+    unfolding declarationBreaks
+    value-breaks (declaration d) f e = declared f (tested-phrase Rule.Value (declarationsOf (f .before)) d e)
     value-breaks process f e = absurd (false≢true e)
-    value-breaks (expression (constant w v)) f e = go (or-cases (not (isWidth w)) (not (fitsWidth w v)) e)
-      where
-        go : (not (isWidth w) ≡ true) ⊎ (not (fitsWidth w v) ≡ true) → Breaks m Rule.Value p
-        go (inl h) = constant-width f (no-width w (not-true (isWidth w) h))
-        go (inr h) = constant-value f (ltb-false v (2 ^ w) (not-true (fitsWidth w v) h))
+    value-breaks (expression (constant w v)) f e =
+        or-cases (not (isWidth w)) (not (fitsWidth w v)) e (λ h. constant-width f (width-no w h)) (λ h. constant-value f (fits-not w v h))
     value-breaks (expression (variable v)) f e = absurd (false≢true e)
     value-breaks (expression (fixedBit v k)) f e = absurd (false≢true e)
     value-breaks (expression (chosenBit v x)) f e = absurd (false≢true e)
@@ -374,24 +210,10 @@ module _ (m : Module) where
     value-breaks (statement s) f e = absurd (false≢true e)
     value-breaks (itemOf x w) f e = absurd (false≢true e)
 
-    no-name-breaks : {d : Declaration} (name : List ℕ) → FieldAt m p i (declaration d) → nameOf d ≡ name → NoName name → Breaks m Rule.Name p
-    no-name-breaks [] f e empty = name-empty f e
-    no-name-breaks name f e (long h) = name-long f (rw e h)
-    no-name-breaks name f e (byte {b} h n) = name-byte {b = b} f (rw e h) n
-    no-name-breaks (b ∷ name) f e (begins h k) = name-digit f e h k
-
     name-breaks : (w : What) (f : FieldAt m p i w) → byField (nameBroken (declarationsOf (f .before))) false (λ e. false) (λ s. false) (λ e w. false) w ≡ true →
         Breaks m Rule.Name p
-    unfolding nameBroken
-    name-breaks (declaration d) f e = go (or-cases (not (isName (nameOf d))) (nameTaken (nameOf d) (declarationsOf (f .before))) e)
-      where
-        go : (not (isName (nameOf d)) ≡ true) ⊎ (nameTaken (nameOf d) (declarationsOf (f .before)) ≡ true) → Breaks m Rule.Name p
-        go (inl h) = no-name-breaks (nameOf d) f refl (no-name (nameOf d) (not-true (isName (nameOf d)) h))
-        go (inr h) =
-            let t = taken-by (nameOf d) (declarationsOf (f .before)) h in
-            let n = declarations-among (f .before) (t .1) in
-            let g = among-smaller (f .stands) (n .1) in
-            name-twice f (g .1) (g .2) (t .2)
+    unfolding declarationBreaks
+    name-breaks (declaration d) f e = declared f (tested-phrase Rule.Name (declarationsOf (f .before)) d e)
     name-breaks process f e = absurd (false≢true e)
     name-breaks (expression x) f e = absurd (false≢true e)
     name-breaks (statement s) f e = absurd (false≢true e)
@@ -400,8 +222,8 @@ module _ (m : Module) where
     count-breaks : (w : What) (f : FieldAt m p i w) →
         byField (countBroken (declarationsOf (f .before))) (leb mostProcesses (countProcesses (f .before))) (λ e. false) (λ s. false) (λ e w. false) w ≡ true →
         Breaks m Rule.Count p
-    unfolding countBroken
-    count-breaks (declaration d) f e = variable-over f (leb-true mostVariables (length (declarationsOf (f .before))) e)
+    unfolding declarationBreaks
+    count-breaks (declaration d) f e = declared f (tested-phrase Rule.Count (declarationsOf (f .before)) d e)
     count-breaks process f e = process-over f (leb-true mostProcesses (countProcesses (f .before)) e)
     count-breaks (expression x) f e = absurd (false≢true e)
     count-breaks (statement s) f e = absurd (false≢true e)
@@ -432,12 +254,12 @@ module _ (m : Module) where
     widths-breaks (expression (fixedBit v k)) f e = absurd (false≢true e)
     widths-breaks (expression (chosenBit v x)) f e = absurd (false≢true e)
     widths-breaks (expression (one op a)) f e = absurd (false≢true e)
-    widths-breaks (expression (two op a b)) f e = both-operands f (differ (expressionWidth ds a) (expressionWidth ds b) e)
-    widths-breaks (statement (assign kind v x)) f e = value-target f (differ (expressionWidth ds x) (variableWidth ds v) e)
-    widths-breaks (statement (assignBit kind v k x)) f e = bit-value-wide f (differ (expressionWidth ds x) 1 e)
-    widths-breaks (statement (ifElse c a b)) f e = condition-wide f (differ (expressionWidth ds c) 1 e)
+    widths-breaks (expression (two op a b)) f e = both-operands f (unlike-ne (expressionWidth ds a) (expressionWidth ds b) e)
+    widths-breaks (statement (assign kind v x)) f e = value-target f (unlike-ne (expressionWidth ds x) (variableWidth ds v) e)
+    widths-breaks (statement (assignBit kind v k x)) f e = bit-value-wide f (unlike-ne (expressionWidth ds x) 1 e)
+    widths-breaks (statement (ifElse c a b)) f e = condition-wide f (unlike-ne (expressionWidth ds c) 1 e)
     widths-breaks (statement (case x items)) f e = absurd (false≢true e)
-    widths-breaks (itemOf x w) f e = item-selector f (differ w (expressionWidth ds x) e)
+    widths-breaks (itemOf x w) f e = item-selector f (unlike-ne w (expressionWidth ds x) e)
 
     bit-breaks : (w : What) → FieldAt m p i w → byField (λ d. false) false (readOutside ds) (writeOutside ds) (λ e w. false) w ≡ true → Breaks m Rule.BitNumber p
     bit-breaks (declaration d) f e = absurd (false≢true e)
@@ -468,7 +290,7 @@ module _ (m : Module) where
     processes-breaks {kind} {v} f a g =
         let h = among-smaller (f .stands) (g .among) in
         let t = and-eq-true-iff (eqb (g .target) v) (not (eqb (g .number) i)) .0 (g .passes) in
-        two-processes f a (h .1) (rw (eqb-true (g .target) v (t .0)) at (g .assigns)) (h .2) (differ (g .number) i (t .1))
+        two-processes f a (h .1) (rw (eqb-true (g .target) v (t .0)) at (g .assigns)) (h .2) (unlike-ne (g .number) i (t .1))
 
     -- a read at p: what the test of rule 11 on it says of an assignment elsewhere
     elsewhere-breaks : {v : ℕ} {x : Expression} (f : FieldAt m p i (expression x)) → Reads v x →
@@ -478,7 +300,7 @@ module _ (m : Module) where
         let t = and-eq-true-iff (isBlocking (g .kind) && eqb (g .target) v) (not (eqb (g .number) i)) .0 (g .passes) in
         let u = and-eq-true-iff (isBlocking (g .kind)) (eqb (g .target) v) .0 (t .0) in
         let a = rw (is-blocking (g .kind) (u .0), eqb-true (g .target) v (u .1)) at (g .assigns) in
-        read-elsewhere f r (record { before = h .0; stands = h .2 }) a (differ (g .number) i (t .1))
+        read-elsewhere f r (record { before = h .0; stands = h .2 }) a (unlike-ne (g .number) i (t .1))
 
   -- a node seen as what it is
   seen-as : {before : List Node} {p : ℕ} (n : Node) {w : What} → n .what ≡ w → Stands (moduleNodes 3 m) before p n →
@@ -523,32 +345,40 @@ module _ (m : Module) where
   broken-by : (k : Rule) {p i : ℕ} {w : What} (f : FieldAt m p i w) → breaks ds all k (f .before) (record { inProcess = i; what = w }) ≡ true → BrokenAt m k p
   broken-by k {p} {i} {w} f e = record { before = f .before; node = record { inProcess = i; what = w }; stands = f .stands; broken = e }
 
+  -- on a declaration, the tests of a module's field are those of the declaration, or none
+  declared-test : (k : Rule) {p i : ℕ} {d : Declaration} (f : FieldAt m p i (declaration d)) → declarationBreaks k (declarationsOf (f .before)) d ≡ true → BrokenAt m k p
+  unfolding breaks declarationBreaks
+  declared-test Rule.Value f e = broken-by Rule.Value f e
+  declared-test Rule.Name f e = broken-by Rule.Name f e
+  declared-test Rule.Count f e = broken-by Rule.Count f e
+  declared-test Rule.FileLength f e = absurd (false≢true e)
+  declared-test Rule.Form f e = absurd (false≢true e)
+  declared-test Rule.Reference f e = absurd (false≢true e)
+  declared-test Rule.Widths f e = absurd (false≢true e)
+  declared-test Rule.BitNumber f e = absurd (false≢true e)
+  declared-test Rule.BothKinds f e = absurd (false≢true e)
+  declared-test Rule.TwoProcesses f e = absurd (false≢true e)
+  declared-test Rule.ReadElsewhere f e = absurd (false≢true e)
+  declared-test Rule.Cells f e = absurd (false≢true e)
+  declared-test Rule.Buffer f e = absurd (false≢true e)
+  declared-test Rule.Row f e = absurd (false≢true e)
+
   breaks-test : {k : Rule} {p : ℕ} → Breaks m k p → BrokenAt m k p
-  unfolding breaks valueBroken nameBroken countBroken
-  breaks-test (declared-width {d = d} f h) = broken-by Rule.Value f (width-broken d h)
-  breaks-test (initial-value {width = width} {initial = initial} f h) = broken-by Rule.Value f (rw (le-ltb initial (2 ^ width) h, or-true))
-  breaks-test (constant-width f h) = broken-by Rule.Value f (rw (width-none h))
-  breaks-test (constant-value {w = w} {v = v} f h) = broken-by Rule.Value f (rw (le-ltb v (2 ^ w) h, or-true))
-  breaks-test (name-empty {d = d} f e) = let n : isName (nameOf d) ≡ false = rw e (name-none empty) in broken-by Rule.Name f (rw n)
-  breaks-test (name-long {d = d} f h) = let n : isName (nameOf d) ≡ false = name-none (long h) in broken-by Rule.Name f (rw n)
-  breaks-test (name-byte {d = d} f h x) = let n : isName (nameOf d) ≡ false = name-none (byte h x) in broken-by Rule.Name f (rw n)
-  breaks-test (name-digit {d = d} f e h k) = let n : isName (nameOf d) ≡ false = rw e (name-none (begins h k)) in broken-by Rule.Name f (rw n)
-  breaks-test (name-twice {d = d} {c = c} f g less same) =
-      let among = among-declarations (f .before) (smaller-among g (f .stands) less) in
-      broken-by Rule.Name f (or-second (not (isName (nameOf d))) (nameTaken (nameOf d) (declarationsOf (f .before)))
-      (by-taken (nameOf d) (declarationsOf (f .before)) c among same))
-  breaks-test (variable-over f h) = broken-by Rule.Count f (le-leb mostVariables (length (declarationsOf (f .before))) h)
+  unfolding breaks
+  breaks-test {k} (declared f h) = declared-test k f (phrase-tested h)
+  breaks-test (constant-width {w = w} f h) = broken-by Rule.Value f (or-left (not (isWidth w)) _ (no-width h))
+  breaks-test (constant-value {w = w} {v = v} f h) = broken-by Rule.Value f (or-right (not (isWidth w)) (not-fits w v h))
   breaks-test (process-over f h) = broken-by Rule.Count f (le-leb mostProcesses (countProcesses (f .before)) h)
   breaks-test (read-missing {v = v} f r h) = broken-by Rule.Reference f (by-reads (missingVariable ds) r (le-leb (length ds) v h))
   breaks-test (assigned-missing {v = v} f a h) =
       broken-by Rule.Reference f (by-assigns (λ kind v. not (registerAt ds v)) a (rw (missing-register ds v h)))
   breaks-test (assigned-input {v = v} f a h) =
       broken-by Rule.Reference f (by-assigns (λ kind v. not (registerAt ds v)) a (rw (declares-register h)))
-  breaks-test (value-target {v = v} {e = e} f n) = broken-by Rule.Widths f (rw (ne-eqb (expressionWidth ds e) (variableWidth ds v) n))
-  breaks-test (both-operands {a = a} {b = b} f n) = broken-by Rule.Widths f (rw (ne-eqb (expressionWidth ds a) (expressionWidth ds b) n))
-  breaks-test (item-selector {w = w} {selector = x} f n) = broken-by Rule.Widths f (rw (ne-eqb w (expressionWidth ds x) n))
-  breaks-test (condition-wide {c = c} f n) = broken-by Rule.Widths f (rw (ne-eqb (expressionWidth ds c) 1 n))
-  breaks-test (bit-value-wide {e = e} f n) = broken-by Rule.Widths f (rw (ne-eqb (expressionWidth ds e) 1 n))
+  breaks-test (value-target {v = v} {e = e} f n) = broken-by Rule.Widths f (unlike (expressionWidth ds e) (variableWidth ds v) n)
+  breaks-test (both-operands {a = a} {b = b} f n) = broken-by Rule.Widths f (unlike (expressionWidth ds a) (expressionWidth ds b) n)
+  breaks-test (item-selector {w = w} {selector = x} f n) = broken-by Rule.Widths f (unlike w (expressionWidth ds x) n)
+  breaks-test (condition-wide {c = c} f n) = broken-by Rule.Widths f (unlike (expressionWidth ds c) 1 n)
+  breaks-test (bit-value-wide {e = e} f n) = broken-by Rule.Widths f (unlike (expressionWidth ds e) 1 n)
   breaks-test (bit-read {v = v} {k = k} f h) = broken-by Rule.BitNumber f (le-leb (variableWidth ds v) k h)
   breaks-test (bit-assigned {v = v} {k = k} f h) = broken-by Rule.BitNumber f (le-leb (variableWidth ds v) k h)
   breaks-test (index-wide {v = v} {index = x} f h) = broken-by Rule.BitNumber f (rw (lt-leb (2 ^ expressionWidth ds x) (variableWidth ds v) h))

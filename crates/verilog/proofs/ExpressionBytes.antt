@@ -24,8 +24,9 @@ use Rattle.verilog.specs.Tree.{Expression, constant, variable, fixedBit,
 use Rattle.verilog.specs.Form.{expressionField, expressionBytes, expressionParts, expressionBody}
 use Rattle.verilog.specs.Reading.{noExpression, frontBy, afterFront, expressionWith, expressionIn}
 use Rattle.verilog.specs.Fits.{longestField, FitsExpression, expressionDepth}
-use Rattle.verilog.proofs.FrontLaws.{Returned, Returns, fixed-tells, fixed-only, after-passed, front-written, next-returns, last-returns, only-fixed, fixed-written, stands-passed, stands-front, stands-after, next-stands, last-stands, last-front}
-use Rattle.verilog.proofs.AnyPlace.{AnywhereBody, AnywhereJudge, field-anywhere, then-anywhere, fixed-anywhere, ended-anywhere}
+use Rattle.tagged.proofs.JudgeLaws.{fixed-tells, fixed-only, only-fixed, fixed-written}
+use Rattle.verilog.proofs.FrontLaws.{Returned, Returns, after-passed, front-written, next-returns, last-returns, stands-passed, stands-front, stands-after, next-stands, last-stands, last-front}
+use Rattle.tagged.proofs.AnyPlace.{AnywhereBody, AnywhereJudge, field-anywhere, then-anywhere, fixed-anywhere, ended-anywhere}
 use Rattle.verilog.proofs.SortChoices.{expression-known, expression-fine}
 
 -- an expression by its sort and payload, which is what stands at the front

@@ -1,5 +1,5 @@
 -- What is read of a payload without a fault has a property, if so has what is read of each payload inside it: for the field at the front and for lists of fields.
-use mathlib.Core.Path.{_≡_, refl, subst}
+use mathlib.Core.Path.{_≡_, subst}
 use mathlib.Core.Bool.{Bool, true}
 use mathlib.Core.List.{List}
 use Prim.Native.Nat.{ℕ, _+_}
@@ -7,21 +7,21 @@ use native.Mathlib.Omega.{arith}
 use lib.ListN.{length, take, drop}
 use Rattle.tagged.specs.Bytes.{AllBytes}
 use Rattle.tagged.specs.declared.sorts.Sort.{Sort}
-use Rattle.tagged.specs.declared.fields.Opened.{Opened}
-use Rattle.tagged.specs.declared.fields.Opened.the-variants as Opened
 use Rattle.tagged.specs.declared.fields.Judged.{Judged}
 use Rattle.tagged.specs.declared.fields.Judged.the-variants as Judged
 use Rattle.tagged.specs.declared.fields.Step.{Step}
 use Rattle.tagged.specs.declared.fields.Step.the-variants as Step
-use Rattle.tagged.specs.Fields.{Judge, Body, openOf, fieldBy, thenBy, ended, many, anySort, untilEnd, readPlaced, unplaced}
+use Rattle.tagged.specs.Fields.{Judge, Body, fieldBy, thenBy, many, untilEnd, readPlaced, unplaced}
 use Rattle.tagged.proofs.ByteLaws.{bytes-drop, bytes-take}
-use Rattle.tagged.proofs.FieldLaws.{whole-open, open-whole, Passed, field-passed}
-use Rattle.tagged.proofs.ListLaws.{read-end, read-stop, read-more, read-anywhere}
-use Rattle.tagged.proofs.ListBytes.{Run, stop, more, many-run}
+use Rattle.tagged.proofs.FieldLaws.{whole-open, Passed, field-passed}
+use Rattle.tagged.proofs.ListLaws.{read-anywhere}
+use Rattle.tagged.proofs.ListBytes.{Run, many-run}
+use Rattle.tagged.proofs.RunLaws.{until-run, run-has}
 use Rattle.verilog.specs.Reading.{frontBy, afterFront}
 use Rattle.verilog.specs.Fits.{All}
-use Rattle.verilog.proofs.FrontLaws.{then-tells, after-passed}
-use Rattle.verilog.proofs.FrontLists.{only-wanted}
+use Rattle.tagged.proofs.JudgeLaws.{then-tells}
+use Rattle.verilog.proofs.FrontLaws.{after-passed}
+use Rattle.verilog.proofs.AllLaws.{member-all}
 
 module _ {A : Type 0} (body : Body) (read : Sort → List ℕ → A) (P : A → Type 0) where
   -- what is read of a payload without a fault has the property
@@ -60,15 +60,8 @@ module _ {A : Type 0} (body : Body) (read : Sort → List ℕ → A) (P : A → 
     -- lists of fields
     module _ (wanted : Sort → Bool) where
       run-holds : {base m : ℕ} {l : List ℕ} → AllBytes l → Run wanted body base l m → All P (unplaced (readPlaced wanted read base l))
-      unfolding All
-      run-holds {base} {m} {l} h (stop off) = go (openOf 0 0 l) refl
-        where
-          go : (o : Opened) → openOf 0 0 l ≡ o → All P (unplaced (readPlaced wanted read base l))
-          go (Opened.Field s n) e = let w = open-whole 0 0 l e in rw (read-stop wanted read base l w (off s n w)) tt
-          go (Opened.Refused x) e = rw (read-end wanted read base l x e) tt
-      run-holds {base} {l = l} h (more {m = j} p is tail) =
-          let later = run-holds (bytes-drop j l h) tail in
-          rw (read-more wanted read base l (p .whole) is, ← p .bytes) (inside base l j h p, later)
+      run-holds {base} {l = l} h run =
+          member-all P (unplaced (readPlaced wanted read base l)) (run-has wanted body read P (λ at s payload all short is fine. holds at s payload all fine) h run)
 
       pub many-holds : (base owner : ℕ) (l : List ℕ) (m : ℕ) → AllBytes l → many wanted (fieldBy body) base owner l ≡ Step.Past m →
           All P (unplaced (readPlaced wanted read 0 l))
@@ -79,6 +72,5 @@ module _ {A : Type 0} (body : Body) (read : Sort → List ℕ → A) (P : A → 
     module _ (wanted : Sort → Bool) (only : (base : ℕ) (s : Sort) (l : List ℕ) → AllBytes l → body base s l ≡ Judged.Fine → wanted s ≡ true) where
       pub until-holds : (base owner : ℕ) (l : List ℕ) → AllBytes l → untilEnd (fieldBy body) base owner l ≡ Judged.Fine → All P (unplaced (readPlaced wanted read 0 l))
       until-holds base owner l h e =
-          let t = then-tells (many anySort (fieldBy body)) ended base owner l e in
-          let run = many-run anySort body (length l) base owner l (t .size) (omega arith) (t .passed) in
-          subst (λ (x : List A). All P x) (read-anywhere wanted read 0 base 0 l) (run-holds wanted h (only-wanted wanted body only h run))
+          let u = until-run wanted body only base owner l h e in
+          subst (λ (x : List A). All P x) (read-anywhere wanted read 0 base 0 l) (run-holds wanted h (u .1))

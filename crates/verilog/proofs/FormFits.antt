@@ -28,16 +28,19 @@ use Rattle.tagged.specs.declared.fields.Step.the-variants as Step
 use Rattle.tagged.specs.declared.answers.Answer.{Answer}
 use Rattle.tagged.specs.declared.answers.Answer.the-variants as Answer
 use Rattle.tagged.proofs.ByteLaws.{bytes-drop, four-lt}
+use Rattle.tagged.proofs.FileLaws.{file-fits}
 use Rattle.tagged.proofs.DeclarationLaws.{declaration-sort, other-sort}
+use Rattle.tagged.proofs.DeclarationBytes.{after-declared}
 use Rattle.verilog.specs.Tree.{Expression, Statement, Block, end, Items}
 use Rattle.verilog.specs.Form.{expressionBody, expressionParts, constantBody, statementParts, statementBody, blockBody, itemBody, processBody, moduleForm}
 use Rattle.verilog.specs.Reading.{noExpression, frontBy, afterFront, blockFront, expressionWith, expressionIn, blockFrom, ReadItem, itemsFrom, afterItems, statementWith, statementIn, blockIn, itemIn, treeIn, moduleIn}
 use Rattle.verilog.specs.Fits.{FitsOne, FitsFour, FitsExpression, FitsStatement, FitsBlock, FitsItems, FitsDeclaration, All, expressionDepth, statementDepth, statementsDepth, itemsDepth, declarationsDepth, processesDepth, moduleDepth, FitsModule}
-use Rattle.verilog.proofs.FrontLaws.{then-tells, fixed-tells}
-use Rattle.verilog.proofs.SortChoices.{expression-fine, statement-fine, sort-fine}
+use Rattle.tagged.proofs.JudgeLaws.{then-tells, fixed-tells}
+use Rattle.tagged.proofs.JudgeLaws.{sort-fine}
+use Rattle.verilog.proofs.SortChoices.{expression-fine, statement-fine}
 use Rattle.verilog.proofs.FineLaws.{Holds, HoldsNext, next-holds, many-holds, until-holds}
 use Rattle.verilog.proofs.ExpressionBytes.{expressionAt, expression-front}
-use Rattle.verilog.proofs.ModuleBytes.{file-length, after-declared, process-returns, form-opened, form-written}
+use Rattle.verilog.proofs.ModuleBytes.{process-returns, form-opened, form-written}
 use Rattle.verilog.proofs.StatementBytes.{constantAt, blockAt, constant-front, after-items, level-returns}
 
 pub four-fits : (l : List ℕ) → AllBytes l → fourOf l < 2 ^ 32
@@ -294,5 +297,5 @@ form-fits file h accepted m e =
       declarations = declarations-within 3 0 l (t .size) all (t .passed);
       processes = blocks-fit (unplaced (readPlaced (isSort Sort.Process) (λ s p. blockIn 31 p) 0 (afterDeclarations l))) processes;
       deep = omega arith;
-      long = rw (form-written file h accepted m e) at (file-length longestModule file accepted .0);
+      long = rw (form-written file h accepted m e) at (file-fits longestModule file accepted .short);
     }

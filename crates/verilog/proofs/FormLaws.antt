@@ -26,13 +26,12 @@ use Rattle.tagged.specs.declared.fields.Step.the-variants as Step
 use Rattle.tagged.proofs.sorts.Sort as sorts
 use Rattle.tagged.proofs.sorts.ExpressionSort as expression-sorts
 use Rattle.tagged.proofs.ByteLaws.{rest}
-use Rattle.tagged.proofs.SortLaws.{sort-back}
+use Rattle.tagged.proofs.SortLaws.{sort-back, is-itself}
 use Rattle.tagged.proofs.FieldLaws.{then-past, then-refused, fixed-short, fixed-then, ended-fine, ended-over}
 use Rattle.tagged.proofs.ListLaws.{turn-done, turn-refused}
 use Rattle.tagged.proofs.ListBytes.{Run, stop, more, many-run}
 use Rattle.verilog.specs.Form.{expressionParts, expressionOf, expressionBody, constantOf, constantBody, statementParts, statementOf, statementBody}
 use Rattle.verilog.specs.Form.{blockOf, blockBody, itemOf, itemBody, processOf, processBody, moduleOf, moduleBody}
-use Rattle.verilog.proofs.SortChoices.{is-itself}
 
 -- fixed bytes and nothing else
 module _ (n base owner : ℕ) (l : List ℕ) where

@@ -1,13 +1,11 @@
 -- Laws of the field at the front of a payload, for readers that go with a judge: what a fine payload tells, and how a written one is judged and read.
 use mathlib.Core.Path.{_≡_, refl, sym, ap, ap₂, _∙_, subst}
-use mathlib.Core.Bool.{Bool, true, false, cond}
+use mathlib.Core.Bool.{Bool, true}
 use mathlib.Core.List.{List, [], _++_, append-nil}
-use Prim.Native.Nat.{ℕ, _+_, _≤_}
+use Prim.Native.Nat.{ℕ, _+_}
 use native.Mathlib.Omega.{arith}
-use lib.Dec.{ltb, eqb}
 use lib.ListN.{length, getD, take, drop, length-drop, take-append-drop}
 use lib.Seq.{drop-at, take-all}
-use borrow.Author.Tests.{eqb-true, ltb-false, eq-eqb, le-ltb}
 use Rattle.tagged.specs.Bytes.{AllBytes}
 use Rattle.tagged.specs.Sorts.{tagOf}
 use Rattle.tagged.specs.declared.sorts.Sort.{Sort}
@@ -15,56 +13,14 @@ use Rattle.tagged.specs.declared.fields.Judged.{Judged}
 use Rattle.tagged.specs.declared.fields.Judged.the-variants as Judged
 use Rattle.tagged.specs.declared.fields.Step.{Step}
 use Rattle.tagged.specs.declared.fields.Step.the-variants as Step
-use Rattle.tagged.specs.Fields.{fieldBytes, Judge, Stepper, Body, afterStep, fieldBy, thenBy, fixedThen, ended}
+use Rattle.tagged.specs.Fields.{fieldBytes, Judge, Body, fieldBy, thenBy, ended}
 use Rattle.tagged.proofs.ByteLaws.{bytes-drop, bytes-take}
 use Rattle.tagged.proofs.SortLaws.{sort-back, tag-back}
 use Rattle.tagged.proofs.FieldLaws.{Whole, whole-open, field-passed, passed-field}
+use Rattle.tagged.proofs.RunLaws.{Known}
+use Rattle.tagged.proofs.JudgeLaws.{then-tells, ended-tells, then-written, last-written}
 use Rattle.tagged.proofs.ListBytes.{whole-bytes, field-whole, field-payload, field-length, Stands}
 use Rattle.verilog.specs.Reading.{frontBy, afterFront}
-
--- what a fine payload tells
-
-pub record Thens (first : Stepper) (next : Judge) (base owner : ℕ) (l : List ℕ) : Type 0 where
-  pub size : ℕ
-  pub passed : first base owner l ≡ Step.Past size
-  pub rest : next (base + size) owner (drop size l) ≡ Judged.Fine
-
-pub then-tells : (first : Stepper) (next : Judge) (base owner : ℕ) (l : List ℕ) → thenBy first next base owner l ≡ Judged.Fine → Thens first next base owner l
-unfolding thenBy
-then-tells first next base owner l e = go (first base owner l) refl e
-  where
-    go : (s : Step) → first base owner l ≡ s → afterStep s (λ m. next (base + m) owner (drop m l)) ≡ Judged.Fine → Thens first next base owner l
-    go (Step.Past m) p q = record { size = m; passed = p; rest = q }
-    go (Step.Refused x) p q = absurd (let z : _≡_ {A = ℕ} 0 1 = cc in omega arith)
-
-pub fixed-tells : (n : ℕ) (next : Judge) (base owner : ℕ) (l : List ℕ) → fixedThen n next base owner l ≡ Judged.Fine →
-    (n ≤ length l) × (next (base + n) owner (drop n l) ≡ Judged.Fine)
-unfolding fixedThen
-fixed-tells n next base owner l e = go (ltb (length l) n) refl e
-  where
-    go : (t : Bool) → ltb (length l) n ≡ t → cond t (Judged.Refused owner) (next (base + n) owner (drop n l)) ≡ Judged.Fine →
-        (n ≤ length l) × (next (base + n) owner (drop n l) ≡ Judged.Fine)
-    go true p q = absurd (let z : _≡_ {A = ℕ} 0 1 = cc in omega arith)
-    go false p q = (ltb-false _ _ p, q)
-
-pub ended-tells : (base owner : ℕ) (l : List ℕ) → ended base owner l ≡ Judged.Fine → length l ≡ 0
-unfolding ended
-ended-tells base owner l e = go (eqb (length l) 0) refl e
-  where
-    go : (t : Bool) → eqb (length l) 0 ≡ t → cond t Judged.Fine (Judged.Refused owner) ≡ Judged.Fine → length l ≡ 0
-    go true p q = eqb-true _ _ p
-    go false p q = absurd (let z : _≡_ {A = ℕ} 0 1 = cc in omega arith)
-
--- so many fixed bytes and nothing else
-pub fixed-only : (n base owner : ℕ) (l : List ℕ) → fixedThen n ended base owner l ≡ Judged.Fine → length l ≡ n
-fixed-only n base owner l e =
-    let f = fixed-tells n ended base owner l e in
-    let none = ended-tells (base + n) owner (drop n l) (f .1) in
-    omega (arith, length-drop n l, f .0)
-
--- a wanted sort has a tag
-abbrev pub Known : (Sort → Bool) → Type 0
-Known wanted = (s : Sort) → wanted s ≡ true → tagOf s ≡ 0 → ⊥
 
 -- what follows a field that was passed
 pub after-passed : (body : Body) (base owner : ℕ) (l : List ℕ) (m : ℕ) → fieldBy body base owner l ≡ Step.Past m → afterFront l ≡ drop m l
@@ -120,32 +76,6 @@ module _ {A : Type 0} (wanted : Sort → Bool) (body : Body) (read : Sort → Li
         sym (front-written (t .size) (t .passed)) ∙ take-all (t .size) l (omega (arith, length-drop (t .size) l))
 
 -- to bytes: how a written payload is judged and read
-
-pub then-written : (first : Stepper) (next : Judge) (base owner : ℕ) (part after : List ℕ) → first base owner (part ++ after) ≡ Step.Past (length part) →
-    next (base + length part) owner after ≡ Judged.Fine → thenBy first next base owner (part ++ after) ≡ Judged.Fine
-unfolding thenBy
-then-written first next base owner part after p q = rw (p, drop-at part after (length part) refl, q)
-
-pub nothing-left : (base owner : ℕ) → ended base owner [] ≡ Judged.Fine
-unfolding ended
-nothing-left base owner = refl
-
-pub last-written : (first : Stepper) (base owner : ℕ) (part : List ℕ) → first base owner (part ++ []) ≡ Step.Past (length part) →
-    thenBy first ended base owner part ≡ Judged.Fine
-last-written first base owner part p =
-    subst (λ (l : List ℕ). thenBy first ended base owner l ≡ Judged.Fine) (append-nil part)
-    (then-written first ended base owner part [] p (nothing-left (base + length part) owner))
-
-pub fixed-written : (n : ℕ) (next : Judge) (base owner : ℕ) (l : List ℕ) → n ≤ length l → next (base + n) owner (drop n l) ≡ Judged.Fine →
-    fixedThen n next base owner l ≡ Judged.Fine
-unfolding fixedThen
-fixed-written n next base owner l h q = rw (le-ltb _ _ h, q)
-
-pub only-fixed : (n base owner : ℕ) (l : List ℕ) → length l ≡ n → fixedThen n ended base owner l ≡ Judged.Fine
-unfolding ended
-only-fixed n base owner l e =
-    let none : length (drop n l) ≡ 0 = length-drop n l ∙ omega arith in
-    fixed-written n ended base owner l (omega arith) (rw (eq-eqb _ _ none))
 
 module _ {A : Type 0} {wanted : Sort → Bool} {body : Body} {read : Sort → List ℕ → A} {bytes : A → List ℕ} {a : A} (x : Stands wanted body read bytes a)
     (after : List ℕ) where

@@ -1,7 +1,6 @@
 -- Laws and theorems of modules: their bytes and trees give each other back; an accepted module is typed; a typed one never stops and is quiet.
 pub mod FrontLaws
 pub mod FrontLists
-pub mod AnyPlace
 pub mod SortChoices
 pub mod FormLaws
 pub mod ExpressionBytes
@@ -10,16 +9,18 @@ pub mod StatementLists
 pub mod StatementBytes
 pub mod StatementStands
 pub mod ModuleBytes
+pub mod AllLaws
 pub mod FineLaws
 pub mod FormFits
 pub mod WrittenBytes
 pub mod Typed
 pub mod FitLaws
 pub mod NeverStops
-pub mod WalkLaws
 pub mod AcceptedTyped
 pub mod RisingPlaces
 pub mod BreaksLaws
 pub mod RefusedExactly
+pub mod DeclarationsKept
+pub mod AcceptedModule
 pub mod Stops
 pub mod Cases

@@ -1,83 +1,47 @@
 -- Modules and their files give each other back: a file without a fault is the encoding of the tree that is read, and the encoding of a tree within the limits
 -- has no fault and is read as it was.
 use mathlib.Core.Path.{_≡_, refl, sym, ap, ap₂, _∙_, subst}
-use mathlib.Core.Bool.{Bool, true, false, cond, _&&_}
+use mathlib.Core.Bool.{true}
 use mathlib.Core.List.{List, [], _∷_, _++_, append-nil}
 use Prim.Native.Nat.{ℕ, suc, _+_, _≤_, _<_}
 use native.Mathlib.Omega.{arith}
-use lib.Dec.{leb}
 use lib.ListN.{length, getD, take, drop, length-append, length-drop, take-append-drop}
 use lib.Seq.{take-all, drop-at}
-use borrow.Author.Tests.{eqb-true, leb-true, eq-eqb, le-leb}
+use borrow.Author.Tests.{eqb-true, eq-eqb, le-leb}
 use Rattle.tagged.specs.Limits.{deepest, shortestFile, longestModule}
 use Rattle.tagged.specs.Bytes.{AllBytes, twoBytes}
 use Rattle.tagged.specs.Sorts.{sortOf, tagOf, isDeclaration, isSort}
-use Rattle.tagged.specs.Fields.{fieldBytes, allBytesOf, sizeOf, fieldBy, thenBy, fixedThen, anyBytes, untilEnd, passedBytes, readPlaced, unplaced}
-use Rattle.tagged.specs.Files.{fileAnswer, outerAnswer, outerFits}
-use Rattle.tagged.specs.Declarations.{Declaration, fixedBytes, sortOfDeclaration, declarationPayload, declarationBytes, declarationBody, declarationsStep, declarationRead, declarationsIn, afterDeclarations}
-use Rattle.tagged.specs.declared.sorts.DeclarationSort.{DeclarationSort}
+use Rattle.tagged.specs.Fields.{fieldBytes, allBytesOf, sizeOf, fieldBy, thenBy, untilEnd, passedBytes, readPlaced, unplaced}
+use Rattle.tagged.specs.Files.{fileAnswer, outerAnswer}
+use Rattle.tagged.specs.Declarations.{Declaration, sortOfDeclaration, declarationPayload, declarationBytes, declarationBody, declarationsStep, declarationRead, declarationsIn, afterDeclarations}
 use Rattle.tagged.specs.declared.sorts.Sort.{Sort}
 use Rattle.tagged.specs.declared.sorts.Sort.the-variants as Sort
 use Rattle.tagged.specs.declared.fields.Judged.{Judged}
 use Rattle.tagged.specs.declared.fields.Judged.the-variants as Judged
 use Rattle.tagged.specs.declared.fields.Step.{Step}
 use Rattle.tagged.specs.declared.fields.Step.the-variants as Step
-use Rattle.tagged.specs.declared.answers.Rule.the-variants as Rule
 use Rattle.tagged.specs.declared.answers.Answer.{Answer}
 use Rattle.tagged.specs.declared.answers.Answer.the-variants as Answer
 use Rattle.tagged.proofs.ByteLaws.{bytes-drop}
 use Rattle.tagged.proofs.SortLaws.{tag-back}
 use Rattle.tagged.proofs.FieldLaws.{Whole, field-passed}
 use Rattle.tagged.proofs.ListBytes.{whole-bytes, field-whole, field-length, placed-unplaced, Stops, Stands, Each, none, more}
-use Rattle.tagged.proofs.DeclarationLaws.{declaration-sort, other-sort}
-use Rattle.tagged.proofs.DeclarationBytes.{declarations-read, Writable, writable-stands, declarations-pass, declarations-placed}
+use Rattle.tagged.proofs.DeclarationBytes.{after-declared, declarations-read, Writable, writable-stands, declarations-pass, declarations-placed}
 use Rattle.verilog.specs.Tree.{Block, Module}
 use Rattle.verilog.specs.Form.{blockPayload, processBytes, modulePayload, moduleBytes, statementBody, processBody, moduleBody, moduleForm}
 use Rattle.verilog.specs.Reading.{blockIn, treeIn, moduleIn}
 use Rattle.verilog.specs.Fits.{longestField, FitsBlock, FitsDeclaration, All, statementsDepth, processesDepth, moduleDepth, FitsModule}
-use Rattle.verilog.proofs.FrontLaws.{Returns, then-tells, then-written, stands-passed}
-use Rattle.verilog.proofs.FrontLists.{listIn, until-returns, until-stands, until-back}
-use Rattle.verilog.proofs.AnyPlace.{AnywhereBody, field-anywhere, fixed-anywhere, many-anywhere}
-use Rattle.verilog.proofs.SortChoices.{is-itself, process-known, sort-fine}
+use Rattle.tagged.proofs.JudgeLaws.{then-tells, then-written}
+use Rattle.verilog.proofs.FrontLaws.{Returns, stands-passed}
+use Rattle.tagged.proofs.RunLaws.{stops-none, stops-field, listIn, until-stands, until-back}
+use Rattle.verilog.proofs.FrontLists.{until-returns}
+use Rattle.tagged.proofs.FileLaws.{file-fits}
+use Rattle.tagged.proofs.SortLaws.{is-itself}
+use Rattle.tagged.proofs.JudgeLaws.{sort-fine}
+use Rattle.verilog.proofs.SortChoices.{process-known}
 use Rattle.verilog.proofs.ExpressionBytes.{payload-short}
 use Rattle.verilog.proofs.StatementBytes.{block-written}
 use Rattle.verilog.proofs.StatementStands.{block-passed, block-read}
-
--- refusal 1: the file is no longer than the longest, and the outer length is the rest of the file
-pub file-length : (longest : ℕ) (file : List ℕ) → fileAnswer longest file ≡ Answer.Accepted → (length file ≤ longest) × (sizeOf file + 3 ≡ length file)
-unfolding fileAnswer outerAnswer
-file-length longest file e = go (leb shortestFile (length file)) (leb (length file) longest) (outerFits file) refl refl e
-  where
-    go : (s t u : Bool) → leb (length file) longest ≡ t → outerFits file ≡ u →
-        cond (s && t) (cond u Answer.Accepted (Answer.Refused Rule.FileLength 0)) (Answer.Refused Rule.FileLength 0) ≡ Answer.Accepted →
-        (length file ≤ longest) × (sizeOf file + 3 ≡ length file)
-    go true true true p q r = (leb-true _ _ p, eqb-true _ _ q)
-    go true true false p q r = absurd (let z : _≡_ {A = ℕ} 0 1 = cc in omega arith)
-    go true false u p q r = absurd (let z : _≡_ {A = ℕ} 0 1 = cc in omega arith)
-    go false t u p q r = absurd (let z : _≡_ {A = ℕ} 0 1 = cc in omega arith)
-
--- declarations have a fault or not wherever they stand
-declaration-anywhere : AnywhereBody declarationBody
-unfolding declarationBody
-declaration-anywhere a b s l fine = go (isDeclaration s) refl
-  where
-    judge : ℕ → DeclarationSort → Judged
-    judge at d = fixedThen (fixedBytes d) anyBytes (at + 3) at l
-
-    go : (t : Bool) → isDeclaration s ≡ t → declarationBody b s l ≡ Judged.Fine
-    go true is =
-        let f = declaration-sort s is in
-        let here : judge a (f .0) ≡ Judged.Fine = subst (λ (s : Sort). declarationBody a s l ≡ Judged.Fine) (f .1) fine in
-        rw (f .1) (fixed-anywhere (fixedBytes (f .0)) anyBytes (λ a o b p l e. refl) (a + 3) a (b + 3) b l here)
-    go false off = absurd (let q = other-sort s (judge a) (Judged.Refused a) off in let z : _≡_ {A = ℕ} 0 1 = cc in omega arith)
-
-declarations-anywhere : (a o b p : ℕ) (l : List ℕ) (m : ℕ) → declarationsStep a o l ≡ Step.Past m → declarationsStep b p l ≡ Step.Past m
-unfolding declarationsStep
-declarations-anywhere a o b p l m e = many-anywhere isDeclaration (fieldBy declarationBody) (field-anywhere declarationBody declaration-anywhere) a o b p l m e
-
--- what follows the declarations that were passed
-pub after-declared : (base owner : ℕ) (l : List ℕ) (m : ℕ) → declarationsStep base owner l ≡ Step.Past m → afterDeclarations l ≡ drop m l
-after-declared base owner l m e = ap (λ (s : Step). drop (passedBytes s) l) (declarations-anywhere base owner 0 0 l m e)
 
 -- from bytes
 
@@ -119,7 +83,7 @@ unfolding moduleForm
 form-opened file h accepted m e =
     let p = field-passed (moduleBody deepest) 0 0 file m e in
     let n = p .size in
-    let outer : n + 3 ≡ length file = ap (λ (k : ℕ). k + 3) (p .whole .size) ∙ file-length longestModule file accepted .1 in
+    let outer : n + 3 ≡ length file = ap (λ (k : ℕ). k + 3) (p .whole .size) ∙ file-fits longestModule file accepted .outer in
     let all : take n (drop 3 file) ≡ drop 3 file = take-all n (drop 3 file) (omega (arith, length-drop 3 file)) in
     let c = sort-fine Sort.Module (p .sort) (thenBy declarationsStep (untilEnd (fieldBy (processBody 31))) 3 0 (take n (drop 3 file))) 0 (p .fine) in
     record {
@@ -171,9 +135,9 @@ processes-each d (b ∷ l) fits deep long =
 
 -- a process begins no declaration
 processes-stop : (l : List Block) → Stops isDeclaration (allBytesOf processBytes l)
-unfolding Stops allBytesOf processBytes fieldBytes tagOf sortOf
-processes-stop [] = λ some. absurd (some refl)
-processes-stop (b ∷ l) = λ some. refl
+unfolding allBytesOf processBytes
+processes-stop [] = stops-none isDeclaration
+processes-stop (b ∷ l) = stops-field isDeclaration Sort.Process (blockPayload b) (allBytesOf processBytes l) refl
 
 after-header : (tag : ℕ) (payload : List ℕ) → drop 3 (fieldBytes tag payload) ≡ payload
 unfolding fieldBytes twoBytes

@@ -4,8 +4,7 @@ use mathlib.Core.Path.{_≡_, refl, sym, _∙_}
 use mathlib.Core.Bool.{Bool, true, false, false≢true}
 use mathlib.Core.List.{List, [], _∷_, List·Memᴰ, List·Memᴰ·head, List·Memᴰ·tail}
 use mathlib.Core.Logic.{_↔_}
-use Prim.Native.Nat.{ℕ, suc, _≤_, _<_}
-use native.Mathlib.Omega.{arith}
+use Prim.Native.Nat.{ℕ, _<_}
 use Rattle.tagged.specs.Fields.{unplaced}
 use Rattle.tagged.specs.Limits.{longestModule}
 use Rattle.tagged.specs.Files.{fileAnswer}
@@ -20,8 +19,9 @@ use Rattle.tagged.specs.declared.answers.Found.{Found}
 use Rattle.tagged.specs.declared.answers.Found.the-variants as Found
 use Rattle.tagged.specs.declared.fields.Step.{Step}
 use Rattle.tagged.specs.declared.fields.Step.the-variants as Step
-use Rattle.tagged.proofs.RefusalLaws.{nowhere-passes, passes-nowhere, FirstBreak, at-first, first-at, refused-not-accepted}
-use Rattle.tagged.proofs.RefusalLaws.{FirstRule, here, later, first-split, accepted-none, none-accepted, none-each, each-none, refused-first, first-refused}
+use Rattle.tagged.proofs.RefusalLaws.{nowhere-passes, passes-nowhere, FirstBreak, at-first, first-at}
+use Rattle.tagged.proofs.RefusalLaws.{Rising, order-rising, accepted-none, none-accepted, none-each, each-none, refused-first, first-refused, first-lower, lower-first, first-broken}
+use Rattle.tagged.proofs.FileLaws.{accepted-parts}
 use Rattle.verilog.specs.Tree.{Module}
 use Rattle.verilog.specs.Nodes.{Node, moduleNodes}
 use Rattle.verilog.specs.Rules.{breaks, moduleBroken}
@@ -32,40 +32,9 @@ use Rattle.verilog.specs.Breaks.{Breaks}
 use Rattle.verilog.proofs.RisingPlaces.{earlier-smaller-place}
 use Rattle.verilog.proofs.BreaksLaws.{BrokenAt, breaks-node}
 
--- rules in the order of their numbers, from n on
-data Rising : ℕ → List Rule → Type 0 where
-  none : {n : ℕ} → Rising n []
-  more : (n : ℕ) (r : Rule) {l : List Rule} → n ≤ numberOf r → Rising (suc (numberOf r)) l → Rising n (r ∷ l)
-
 rules-rise : Rising 3 moduleRules
 unfolding numberOf
-rules-rise =
-    more 3 Rule.Value (omega arith) (more 4 Rule.Name (omega arith) (more 5 Rule.Count (omega arith)
-    (more 6 Rule.Reference (omega arith) (more 7 Rule.Widths (omega arith) (more 8 Rule.BitNumber (omega arith)
-    (more 9 Rule.BothKinds (omega arith) (more 10 Rule.TwoProcesses (omega arith) (more 11 Rule.ReadElsewhere (omega arith) none))))))))
-
-rising-least : {n : ℕ} {rules : List Rule} {j : Rule} → Rising n rules → List·Memᴰ j rules → n ≤ numberOf j
-rising-least (more n r h s) (List·Memᴰ·head e) = rw e h
-rising-least (more n r h s) (List·Memᴰ·tail i) = let k = rising-least s i in omega arith
-
--- the first rule with a place is the one of the lowest number
-module _ (broken : Rule → Found) {k : Rule} {p : ℕ} where
-  first-lowest : {n : ℕ} {rules : List Rule} → Rising n rules → FirstRule broken k p rules → (j : Rule) → List·Memᴰ j rules → numberOf j < numberOf k →
-      broken j ≡ Found.Nowhere
-  first-lowest (more n r h s) (here same at) j (List·Memᴰ·head e) less = let z : numberOf j ≡ numberOf k = rw (e, same) in absurd (omega arith)
-  first-lowest (more n r h s) (here same at) j (List·Memᴰ·tail i) less =
-      let z : numberOf k ≡ numberOf r = rw same in
-      let y = rising-least s i in
-      absurd (omega arith)
-  first-lowest (more n r h s) (later not-here f) j (List·Memᴰ·head e) less = rw e not-here
-  first-lowest (more n r h s) (later not-here f) j (List·Memᴰ·tail i) less = first-lowest s f j i less
-
-  lowest-first : {n : ℕ} {rules : List Rule} → Rising n rules → List·Memᴰ k rules → broken k ≡ Found.At p →
-      ((j : Rule) → List·Memᴰ j rules → numberOf j < numberOf k → broken j ≡ Found.Nowhere) → FirstRule broken k p rules
-  lowest-first (more n r h s) (List·Memᴰ·head e) at lower = here e at
-  lowest-first (more n r h s) (List·Memᴰ·tail i) at lower =
-      let y = rising-least s i in
-      later (lower r (List·Memᴰ·head refl) (omega arith)) (lowest-first s i at (λ j m less. lower j (List·Memᴰ·tail m) less))
+rules-rise = order-rising 3 moduleRules refl
 
 module _ (m : Module) where
   -- the test of rule k, of a field after those before it
@@ -148,17 +117,17 @@ refused m k p = (forth, back)
     forth : treeAnswer 3 m ≡ Answer.Refused k p → RefusedFor m k p
     forth e =
         let f = refused-first (moduleBroken 3 m) moduleRules e in
-        let at = at-breaks m k p (first-split (moduleBroken 3 m) f .4) in
+        let at = at-breaks m k p (first-broken (moduleBroken 3 m) f) in
         record {
           breaks = at .0;
           first-place = at .1;
-          lowest-number = λ j q less b. nowhere-none m j (first-lowest (moduleBroken 3 m) rules-rise f j (breaks-listed m b) less) q b;
+          lowest-number = λ j q less b. nowhere-none m j (first-lower (moduleBroken 3 m) rules-rise f j (breaks-listed m b) less) q b;
         }
 
     back : RefusedFor m k p → treeAnswer 3 m ≡ Answer.Refused k p
     back r =
         first-refused (moduleBroken 3 m)
-        (lowest-first (moduleBroken 3 m) rules-rise (breaks-listed m (r .breaks)) (breaks-at m k p (r .breaks) (r .first-place))
+        (lower-first (moduleBroken 3 m) rules-rise (breaks-listed m (r .breaks)) (breaks-at m k p (r .breaks) (r .first-place))
         (λ j i less. none-nowhere m j (λ q b. r .lowest-number j q less b)))
 
 -- Demand 2, the other side: a module is accepted exactly when no field breaks a rule
@@ -204,11 +173,9 @@ pub record FileAccepted (file : List ℕ) : Type 0 where
 
 pub file-accepted : (file : List ℕ) → moduleAnswer file ≡ Answer.Accepted ↔ FileAccepted file
 unfolding moduleAnswer
-file-accepted file =
-    (λ e. forth (fileAnswer longestModule file) refl (moduleForm file) refl e, λ f. rw (f .long, f .form) (accepted (moduleIn file) .1 (f .unbroken)))
+file-accepted file = (forth, λ f. rw (f .long, f .form) (accepted (moduleIn file) .1 (f .unbroken)))
   where
-    forth : (a : Answer) → fileAnswer longestModule file ≡ a → (s : Step) → moduleForm file ≡ s →
-        afterAnswer a (afterForm s (treeAnswer 3 (moduleIn file))) ≡ Answer.Accepted → FileAccepted file
-    forth (Answer.Refused j q) h s g e = refused-not-accepted e
-    forth Answer.Accepted h (Step.Refused q) g e = refused-not-accepted e
-    forth Answer.Accepted h (Step.Past n) g e = record { size = n; long = h; form = g; unbroken = accepted (moduleIn file) .0 e }
+    forth : moduleAnswer file ≡ Answer.Accepted → FileAccepted file
+    forth e =
+        let p = accepted-parts (fileAnswer longestModule file) (moduleForm file) (treeAnswer 3 (moduleIn file)) e in
+        record { size = p .0; long = p .1; form = p .2; unbroken = accepted (moduleIn file) .0 (p .3) }

@@ -1,9 +1,8 @@
 -- Laws of choosing by a sort: the sort that a test names, and that every sort that is asked for has a tag.
-use mathlib.Core.Path.{_≡_, refl, sym, _∙_}
-use mathlib.Core.Bool.{Bool, true, false, cond, true≢false}
+use mathlib.Core.Path.{_≡_, refl, sym}
+use mathlib.Core.Bool.{true≢false}
 use Prim.Native.Nat.{ℕ}
 use native.Mathlib.Omega.{arith}
-use borrow.Author.Tests.{eqb-true, eq-eqb}
 use Rattle.words.specs.declared.OneOperand.the-variants as one
 use Rattle.words.specs.declared.TwoOperand.the-variants as two
 use Rattle.tagged.specs.Sorts.{tagOf, expressionTag, statementTag, onExpression, onStatement, isExpression, isStatement, isSort}
@@ -16,15 +15,9 @@ use Rattle.tagged.specs.declared.sorts.Sort.{Sort}
 use Rattle.tagged.specs.declared.sorts.Sort.the-variants as Sort
 use Rattle.tagged.specs.declared.fields.Judged.{Judged}
 use Rattle.tagged.specs.declared.fields.Judged.the-variants as Judged
-use Rattle.verilog.proofs.FrontLaws.{Known}
+use Rattle.tagged.proofs.RunLaws.{Known, sort-known}
 
--- the tests that name one sort
-pub is-itself : (a : Sort) → isSort a a ≡ true
-is-itself a = eq-eqb (tagOf a) (tagOf a) refl
-
-pub sort-known : (a : Sort) → (tagOf a ≡ 0 → ⊥) → Known (isSort a)
-sort-known a some s is e = some (eqb-true _ _ is ∙ e)
-
+-- one sort
 pub item-known : Known (isSort Sort.Item)
 unfolding tagOf
 item-known = sort-known Sort.Item (λ e. omega arith)
@@ -40,14 +33,6 @@ process-known = sort-known Sort.Process (λ e. omega arith)
 pub constant-known : Known (isSort (Sort.Expression ExpressionSort.Constant))
 unfolding tagOf
 constant-known = sort-known (Sort.Expression ExpressionSort.Constant) (λ e. omega arith)
-
--- a judge of one sort that finds no fault was given that sort
-pub sort-fine : (a s : Sort) (w : Judged) (x : ℕ) → cond (isSort a s) w (Judged.Refused x) ≡ Judged.Fine → (isSort a s ≡ true) × (w ≡ Judged.Fine)
-sort-fine a s w x h = go (isSort a s) refl h
-  where
-    go : (t : Bool) → isSort a s ≡ t → cond t w (Judged.Refused x) ≡ Judged.Fine → (isSort a s ≡ true) × (w ≡ Judged.Fine)
-    go true e h = (e, h)
-    go false e h = absurd (let z : _≡_ {A = ℕ} 0 1 = cc in omega arith)
 
 -- expressions
 expression-tag : (e : ExpressionSort) → expressionTag e ≡ 0 → ⊥

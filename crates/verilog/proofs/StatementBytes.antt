@@ -24,10 +24,13 @@ use Rattle.tagged.proofs.ByteLaws.{bytes-drop}
 use Rattle.verilog.specs.Tree.{Expression, constant, Statement, Block, end}
 use Rattle.verilog.specs.Form.{expressionBytes, statementField, statementBytes, blockPayload, itemsBytes, blockBytes, expressionBody, constantBody, statementParts, statementBody, blockBody, itemBody}
 use Rattle.verilog.specs.Reading.{noExpression, frontBy, afterFront, blockFront, expressionIn, itemsFrom, afterItems, statementWith, noStatement, statementIn, blockIn, itemIn}
-use Rattle.verilog.proofs.FrontLaws.{Returned, Returns, Fronts, then-tells, fixed-tells, fixed-only, front-written, next-returns, last-returns}
-use Rattle.verilog.proofs.FrontLists.{listIn, many-returns, until-returns}
-use Rattle.verilog.proofs.AnyPlace.{field-anywhere, many-anywhere}
-use Rattle.verilog.proofs.SortChoices.{item-known, block-known, expression-known, statement-known, statement-fine, sort-fine, constant-known}
+use Rattle.tagged.proofs.JudgeLaws.{then-tells, fixed-tells, fixed-only}
+use Rattle.verilog.proofs.FrontLaws.{Returned, Returns, Fronts, front-written, next-returns, last-returns}
+use Rattle.tagged.proofs.RunLaws.{listIn}
+use Rattle.verilog.proofs.FrontLists.{many-returns, until-returns}
+use Rattle.tagged.proofs.AnyPlace.{field-anywhere, many-anywhere}
+use Rattle.tagged.proofs.JudgeLaws.{sort-fine}
+use Rattle.verilog.proofs.SortChoices.{item-known, block-known, expression-known, statement-known, statement-fine, constant-known}
 use Rattle.verilog.proofs.ExpressionBytes.{expressionAt, expression-front, expression-returns, expression-last, constant-payload, one-first, two-first}
 use Rattle.verilog.proofs.StatementLists.{from-bytes, itemBytes, items-from-bytes}
 use Rattle.verilog.proofs.StatementPlaces.{level-anywhere}

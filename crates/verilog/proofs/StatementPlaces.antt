@@ -13,8 +13,9 @@ use Rattle.tagged.specs.declared.sorts.Sort.the-variants as Sort
 use Rattle.tagged.specs.declared.fields.Judged.{Judged}
 use Rattle.tagged.specs.declared.fields.Judged.the-variants as Judged
 use Rattle.verilog.specs.Form.{expressionBody, constantBody, statementParts, statementBody, blockBody, itemBody}
-use Rattle.verilog.proofs.AnyPlace.{AnywhereBody, AnywhereJudge, AnywhereStep, field-anywhere, then-anywhere, fixed-anywhere, ended-anywhere, many-anywhere, until-anywhere}
-use Rattle.verilog.proofs.SortChoices.{statement-fine, sort-fine}
+use Rattle.tagged.proofs.AnyPlace.{AnywhereBody, AnywhereJudge, AnywhereStep, field-anywhere, then-anywhere, fixed-anywhere, ended-anywhere, many-anywhere, until-anywhere}
+use Rattle.tagged.proofs.JudgeLaws.{sort-fine}
+use Rattle.verilog.proofs.SortChoices.{statement-fine}
 use Rattle.verilog.proofs.ExpressionBytes.{expression-anywhere}
 
 -- a judge of one sort

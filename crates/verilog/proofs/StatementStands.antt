@@ -22,9 +22,10 @@ use Rattle.verilog.specs.Tree.{Expression, constant, Statement, assign, 
 use Rattle.verilog.specs.Form.{expressionBytes, statementField, statementBytes, blockPayload, itemsBytes, blockBytes, expressionBody, constantBody, statementBody, blockBody, itemBody}
 use Rattle.verilog.specs.Reading.{noExpression, frontBy, afterFront, blockFront, expressionIn, blockFrom, ReadItem, itemsFrom, afterItems, noStatement, statementIn, blockIn, itemIn}
 use Rattle.verilog.specs.Fits.{FitsFour, longestField, FitsStatement, FitsBlock, FitsItems, statementDepth, statementsDepth, itemsDepth}
-use Rattle.verilog.proofs.FrontLaws.{then-written, only-fixed, fixed-written, stands-passed, stands-front, stands-after, next-stands, last-stands, last-front}
-use Rattle.verilog.proofs.FrontLists.{listIn, until-stands, list-back, until-back}
-use Rattle.verilog.proofs.SortChoices.{is-itself}
+use Rattle.tagged.proofs.JudgeLaws.{then-written, only-fixed, fixed-written}
+use Rattle.verilog.proofs.FrontLaws.{stands-passed, stands-front, stands-after, next-stands, last-stands, last-front}
+use Rattle.tagged.proofs.RunLaws.{listIn, until-stands, list-back, until-back}
+use Rattle.tagged.proofs.SortLaws.{is-itself}
 use Rattle.verilog.proofs.ExpressionBytes.{expression-front, expression-stands, payload-short, four-length, four-read}
 use Rattle.verilog.proofs.StatementLists.{statementsOf, block-again, block-bytes, itemBytes, itemsOf, defaultOf, items-again, items-bytes}
 use Rattle.verilog.proofs.StatementBytes.{constantAt, blockAt, constant-front}

@@ -1,13 +1,14 @@
--- Refusals 3 to 11 on a module in words: which field breaks which rule. One constructor for each phrase of document 01's table, to be held against it.
+-- Refusals 3 to 11 on a module in words: which field breaks which rule. One constructor for each phrase of document 01's table, to be held against it;
+-- those on declarations stand in the crate tagged.
 use mathlib.Core.Path.{_≡_}
-use mathlib.Core.List.{List, [], _∷_, List·Memᴰ}
+use mathlib.Core.List.{List, _∷_}
 use Prim.Native.Nat.{ℕ, suc, _^_, _≤_, _<_}
 use lib.ListN.{length}
-use Rattle.words.specs.Limits.{greatestWidth}
 use Rattle.words.specs.declared.TwoOperand.{TwoOperand}
-use Rattle.tagged.specs.Limits.{longestName, mostVariables, mostProcesses}
+use Rattle.tagged.specs.Limits.{mostProcesses}
 use Rattle.tagged.specs.Stands.{Stands}
-use Rattle.tagged.specs.Declarations.{Declaration, input, register, widthOf, nameOf, variableWidth}
+use Rattle.tagged.specs.Declarations.{Declaration, input, variableWidth}
+use Rattle.tagged.specs.DeclarationPhrases.{NoWidth, DeclarationPhrase}
 use Rattle.tagged.specs.declared.sorts.Kind.{Kind}
 use Rattle.tagged.specs.declared.sorts.Kind.the-variants as Kind
 use Rattle.tagged.specs.declared.answers.Rule.{Rule}
@@ -20,18 +21,6 @@ use Rattle.verilog.specs.Rules.{expressionWidth, declarationsOf, countPr
 pub record FieldAt (m : Module) (p i : ℕ) (what : What) : Type 0 where
   pub before : List Node
   pub stands : Stands (moduleNodes 3 m) before p (record { inProcess = i; what = what })
-
--- width 0 or over 32
-pub data NoWidth : ℕ → Type 0 where
-  zero-wide : NoWidth 0
-  too-wide : {w : ℕ} → greatestWidth < w → NoWidth w
-
--- letters, digits, underscore: A to Z, a to z, 0 to 9, _
-pub data NameByte : ℕ → Type 0 where
-  upper : {b : ℕ} → 0x41 ≤ b → b ≤ 0x5A → NameByte b
-  lower : {b : ℕ} → 0x61 ≤ b → b ≤ 0x7A → NameByte b
-  digit : {b : ℕ} → 0x30 ≤ b → b ≤ 0x39 → NameByte b
-  underscore : NameByte 0x5F
 
 -- variable number v is declared by d: variables are numbered from 0 in declaration order
 pub data Declares : List Declaration → ℕ → Declaration → Type 0 where
@@ -51,30 +40,13 @@ pub data Assigns (kind : Kind) (v : ℕ) : Statement → Type 0 where
 
 -- the field at p breaks a rule. A variable that does not exist counts as 0 wide in 7 and 8, which are looked for after 6
 pub data Breaks (m : Module) : Rule → ℕ → Type 0 where
-  -- 3: width 0 or over 32, of a declaration
-  declared-width : {p i : ℕ} {d : Declaration} → FieldAt m p i (declaration d) → NoWidth (widthOf d) → Breaks m Rule.Value p
-  -- 3: a value not below 2 to its width: a register's initial value
-  initial-value : {p i width initial : ℕ} {name : List ℕ} → FieldAt m p i (declaration (register width initial name)) → 2 ^ width ≤ initial →
-      Breaks m Rule.Value p
+  -- 3 to 5: a declaration, by the phrases on declarations, after the declarations before it
+  declared : {k : Rule} {p i : ℕ} {d : Declaration} (f : FieldAt m p i (declaration d)) → DeclarationPhrase (declarationsOf (f .before)) d k → Breaks m k p
   -- 3: width 0 or over 32, of a constant
   constant-width : {p i w v : ℕ} → FieldAt m p i (expression (constant w v)) → NoWidth w → Breaks m Rule.Value p
   -- 3: a value not below 2 to its width: a constant's
   constant-value : {p i w v : ℕ} → FieldAt m p i (expression (constant w v)) → 2 ^ w ≤ v → Breaks m Rule.Value p
-  -- 4: name not 1 to 24: none
-  name-empty : {p i : ℕ} {d : Declaration} → FieldAt m p i (declaration d) → nameOf d ≡ [] → Breaks m Rule.Name p
-  -- 4: name not 1 to 24: more
-  name-long : {p i : ℕ} {d : Declaration} → FieldAt m p i (declaration d) → longestName < length (nameOf d) → Breaks m Rule.Name p
-  -- 4: name not of letters, digits, underscore
-  name-byte : {p i b : ℕ} {d : Declaration} → FieldAt m p i (declaration d) → List·Memᴰ b (nameOf d) → (NameByte b → ⊥) → Breaks m Rule.Name p
-  -- 4: or a digit first
-  name-digit : {p i b : ℕ} {d : Declaration} {rest : List ℕ} → FieldAt m p i (declaration d) → nameOf d ≡ b ∷ rest → 0x30 ≤ b → b ≤ 0x39 →
-      Breaks m Rule.Name p
-  -- 4: or equal to an earlier name
-  name-twice : {p i q j : ℕ} {d c : Declaration} → FieldAt m p i (declaration d) → FieldAt m q j (declaration c) → q < p → nameOf c ≡ nameOf d →
-      Breaks m Rule.Name p
-  -- 5: a 65th variable
-  variable-over : {p i : ℕ} {d : Declaration} (f : FieldAt m p i (declaration d)) → mostVariables ≤ length (declarationsOf (f .before)) → Breaks m Rule.Count p
-  -- 5: or 9th process
+  -- 5: a 9th process
   process-over : {p i : ℕ} (f : FieldAt m p i process) → mostProcesses ≤ countProcesses (f .before) → Breaks m Rule.Count p
   -- 6: a variable number that does not exist: read
   read-missing : {p i v : ℕ} {e : Expression} → FieldAt m p i (expression e) → Reads v e → length (m .declarations) ≤ v → Breaks m Rule.Reference p

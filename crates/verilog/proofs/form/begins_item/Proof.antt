@@ -3,7 +3,7 @@ use mathlib.Core.Path.{sym, ap, _∙_}
 use borrow.Author.Needs.{needs}
 use Rattle.tagged.specs.Sorts.{isSort}
 use Rattle.tagged.specs.declared.sorts.Sort.the-variants as Sort
-use Rattle.verilog.proofs.SortChoices.{is-itself}
+use Rattle.tagged.proofs.SortLaws.{is-itself}
 use Rattle.verilog.proofs.FormLaws.{not-item}
 use Rattle.verilog.proofs.form.begins_item.Statement.{statement}
 use Rattle.verilog.proofs.form.begins_item.Tie as tie

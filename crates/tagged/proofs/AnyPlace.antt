@@ -1,21 +1,22 @@
 -- Whether a payload has a fault does not depend on where it stands: a judge that passes at one place passes at every place.
+-- By what each judge tells of its parts, and by induction on the list.
 use mathlib.Core.Path.{_≡_, refl, sym}
 use mathlib.Core.Bool.{Bool, true, false}
 use mathlib.Core.List.{List, [], _∷_}
 use Prim.Native.Nat.{ℕ, zero, suc, _+_, _-_}
 use native.Mathlib.Omega.{arith}
 use lib.ListN.{drop}
 use Rattle.tagged.specs.Choice.{choose}
 use Rattle.tagged.specs.Sorts.{sortOf}
 use Rattle.tagged.specs.declared.sorts.Sort.{Sort}
 use Rattle.tagged.specs.declared.fields.Judged.{Judged}
 use Rattle.tagged.specs.declared.fields.Judged.the-variants as Judged
 use Rattle.tagged.specs.declared.fields.Step.{Step}
 use Rattle.tagged.specs.declared.fields.Step.the-variants as Step
 use Rattle.tagged.specs.Fields.{Judge, Stepper, Body, further, fieldBy, thenBy, fixedThen, ended, nextField, manyFrom, many, anySort, untilEnd}
 use Rattle.tagged.proofs.FieldLaws.{field-passed, passed-field, ended-fine}
 use Rattle.tagged.proofs.ListLaws.{further-past}
-use Rattle.verilog.proofs.FrontLaws.{then-tells, fixed-tells, ended-tells, fixed-written}
+use Rattle.tagged.proofs.JudgeLaws.{then-tells, fixed-tells, ended-tells, fixed-written}
 
 abbrev pub AnywhereBody : Body → Type 0
 AnywhereBody body = (a b : ℕ) (s : Sort) (l : List ℕ) → body a s l ≡ Judged.Fine → body b s l ≡ Judged.Fine
