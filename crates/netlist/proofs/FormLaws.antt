@@ -3,15 +3,14 @@ use mathlib.Core.Path.{_≡_, refl, sym, ap, _∙_, subst}
 use mathlib.Core.Bool.{Bool, true, false, cond, _&&_, true≢false}
 use mathlib.Core.List.{List, [], _∷_}
 use Prim.Native.Nat.{ℕ, _+_, _≤_, _<_}
-use native.Mathlib.Omega.{arith}
 use lib.Dec.{leb}
-use lib.ListN.{length, getD, drop, length-drop}
+use lib.ListN.{length, getD, drop}
 use borrow.Author.Tests.{leb-true, leb-false, eq-eqb}
 use types.Run.{OneOf, miss}
 use denote.Enum.Declared as enums
-use Rattle.tagged.specs.Sorts.{tagOf, isDeclaration, isCell, isSort}
-use Rattle.tagged.specs.Fields.{Body, fieldBy, thenBy, fixedThen, ended, many}
-use Rattle.tagged.specs.Declarations.{declarationBody, declarationsStep}
+use Rattle.tagged.specs.Sorts.{tagOf, isCell, isSort}
+use Rattle.tagged.specs.Fields.{thenBy, fixedThen, ended}
+use Rattle.tagged.specs.Declarations.{declarationsStep}
 use Rattle.tagged.specs.declared.sorts.CellSort.{CellSort}
 use Rattle.tagged.specs.declared.sorts.CellSort.the-variants as CellSort
 use Rattle.tagged.specs.declared.sorts.Sort.{Sort}
@@ -20,12 +19,12 @@ use Rattle.tagged.specs.declared.fields.Judged.{Judged}
 use Rattle.tagged.specs.declared.fields.Judged.the-variants as Judged
 use Rattle.tagged.specs.declared.fields.Step.{Step}
 use Rattle.tagged.specs.declared.fields.Step.the-variants as Step
+use Rattle.tagged.proofs.RunLaws.{many-within}
 use Rattle.tagged.proofs.sorts.Sort as sorts
 use Rattle.tagged.proofs.ByteLaws.{rest}
 use Rattle.tagged.proofs.SortLaws.{same-sort}
 use Rattle.tagged.proofs.TestLaws.{both, not-both}
 use Rattle.tagged.proofs.FieldLaws.{fixed-short, fixed-then}
-use Rattle.tagged.proofs.ListBytes.{Run, many-run}
 use Rattle.netlist.specs.Form.{Shape, anOperand, aByte, shapeOf, slotsBy, cellBody, driveBody, cellsStep, drivesJudge, netlistBody}
 use Rattle.netlist.proofs.CellBytes.{cell-sort}
 
@@ -140,19 +139,7 @@ module _ (at : ℕ) (s : Sort) (l : List ℕ) where
   unfolding netlistBody
   netlist-other k = rw (not-sort Sort.Netlist s (λ e. miss butNetlist 9 tt (subst (λ (s : Sort). OneOf butNetlist (variant s)) e k)))
 
--- fields that were passed lie within the list
-run-within : {wanted : Sort → Bool} {body : Body} {base : ℕ} {l : List ℕ} {m : ℕ} → Run wanted body base l m → m ≤ length l
-run-within (Run.stop ends) = omega arith
-run-within {l = l} (Run.more {m = j} f is tail) = omega (arith, run-within tail, length-drop j l, f .bytes, f .whole .within)
-
-many-within : (wanted : Sort → Bool) (body : Body) (base owner : ℕ) (l : List ℕ) (m : ℕ) → many wanted (fieldBy body) base owner l ≡ Step.Past m → m ≤ length l
-many-within wanted body base owner l m e = run-within (many-run wanted body (length l) base owner l m (omega arith) e)
-
-module _ (base owner : ℕ) (l : List ℕ) (r : Step) (m : ℕ) where
-  pub declarations-within : r ≡ declarationsStep base owner l → r ≡ Step.Past m → m ≤ length l
-  unfolding declarationsStep
-  declarations-within p q = many-within isDeclaration declarationBody base owner l m (sym p ∙ q)
-
-  pub cells-within : r ≡ cellsStep base owner l → r ≡ Step.Past m → m ≤ length l
-  unfolding cellsStep
-  cells-within p q = many-within isCell cellBody base owner l m (sym p ∙ q)
+-- cells that are passed lie within the list
+pub cells-within : (base owner : ℕ) (l : List ℕ) (r : Step) (m : ℕ) → r ≡ cellsStep base owner l → r ≡ Step.Past m → m ≤ length l
+unfolding cellsStep
+cells-within base owner l r m p q = many-within isCell cellBody base owner l r m p q

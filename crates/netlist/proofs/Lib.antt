@@ -7,6 +7,7 @@ pub mod PutLaws
 pub mod NextLaws
 pub mod RuleLaws
 pub mod RuleWalks
+pub mod PartLaws
 pub mod RuleParts
 pub mod RunWalks
 pub mod Accepted

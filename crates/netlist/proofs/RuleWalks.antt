@@ -7,7 +7,7 @@ use native.Mathlib.Omega.{arith}
 use lib.ListN.{length, take, drop, set, replicate, length-drop, length-map}
 use lib.Seq.{drop-drop, take-add, length-take-le, set-out}
 use Rattle.tagged.specs.Sorts.{isCell}
-use Rattle.tagged.specs.Fields.{Placed, unplaced}
+use Rattle.tagged.specs.Fields.{Placed, unplaced, sizeOf}
 use Rattle.tagged.specs.Refusals.{firstBroken}
 use Rattle.tagged.specs.Declarations.{tableOf}
 use Rattle.tagged.specs.declared.answers.Found.{Found}
@@ -46,6 +46,9 @@ module _ (l : List ℕ) (at : ℕ) (next : NextCell) (found : next ≡ nextCellI
   cell-within c n e =
       let w = next-cell-whole (drop at l) c n (sym (rw rest at found) ∙ e) in
       omega (arith, w .within, length-drop at l)
+
+  pub cell-sized : (c : CellSort) (n : ℕ) → next ≡ NextCell.Cell c n → sizeOf (drop at l) ≡ n
+  cell-sized c n e = sym (next-cell-whole (drop at l) c n (sym (rw rest at found) ∙ e) .size)
 
   pub cell-placed : (base : ℕ) (c : CellSort) (n : ℕ) → next ≡ NextCell.Cell c n →
       cellsAt (base + at) (drop at l)

@@ -10,3 +10,4 @@ pub mod Fits
 pub mod Breaks
 pub mod Run
 pub mod Numbers
+pub mod Parts

@@ -1,6 +1,7 @@
 // Netlists: declarations, cells in order, and one drive for each register.
 pub mod cycle;
 pub mod form;
+pub mod parts;
 pub mod reading;
 pub mod rules;
 pub mod write;

@@ -482,7 +482,7 @@ fn cells_broken(rule: Rule, list: &[u8], base: usize, variables: &[u8], register
 }
 
 // How many bytes the declarations of a payload take.
-fn declared_bytes(payload: &[u8]) -> usize
+pub fn declared_bytes(payload: &[u8]) -> usize
     requires { ⌜ length (now payload) ≤ 2 ^ 40 ⌝ }
     ensures { λ r. ⌜ r ≡ passedBytes (declarationsStep 0 0 (now (payload .entry))) ⌝ }
 {

@@ -22,7 +22,7 @@ use Rattle.tagged.specs.declared.fields.Step.{Step}
 use Rattle.tagged.specs.declared.fields.Step.the-variants as Step
 use Rattle.tagged.proofs.ByteLaws.{bytes-four, four-back}
 use Rattle.tagged.proofs.ListBytes.{Stops, Each, Stands, many-run, list-many, list-read}
-use Rattle.tagged.proofs.RunLaws.{run-listed}
+use Rattle.tagged.proofs.RunLaws.{run-listed, many-within}
 use Rattle.tagged.proofs.AnyPlace.{AnywhereBody, field-anywhere, fixed-anywhere, many-anywhere}
 use Rattle.tagged.proofs.DeclarationLaws.{declaration-sort, sort-in, body-short, body-fine, other-sort}
 
@@ -147,3 +147,8 @@ module _ {l : List Declaration} (base owner : ℕ) (after : List ℕ) (each : Ea
   pub declarations-placed : declarationsAt base (allBytesOf declarationBytes l ++ after) ≡ placedBy declarationBytes base l
   unfolding declarationsAt
   declarations-placed = list-read isDeclaration declarationBody declarationRead declarationBytes base after each stops
+
+-- the declarations that are passed lie within the list
+pub declarations-within : (base owner : ℕ) (l : List ℕ) (r : Step) (m : ℕ) → r ≡ declarationsStep base owner l → r ≡ Step.Past m → m ≤ length l
+unfolding declarationsStep
+declarations-within base owner l r m p q = many-within isDeclaration declarationBody base owner l r m p q

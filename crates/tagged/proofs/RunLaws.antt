@@ -12,6 +12,8 @@ use Rattle.tagged.specs.Sorts.{tagOf, isSort}
 use Rattle.tagged.specs.declared.sorts.Sort.{Sort}
 use Rattle.tagged.specs.declared.fields.Opened.{Opened}
 use Rattle.tagged.specs.declared.fields.Opened.the-variants as Opened
+use Rattle.tagged.specs.declared.fields.Step.{Step}
+use Rattle.tagged.specs.declared.fields.Step.the-variants as Step
 use Rattle.tagged.specs.declared.fields.Judged.{Judged}
 use Rattle.tagged.specs.declared.fields.Judged.the-variants as Judged
 use Rattle.tagged.specs.Fields.{fieldBytes, allBytesOf, openOf, Body, fieldBy, ended, many, anySort, untilEnd, readPlaced, unplaced, placedBy}
@@ -21,6 +23,15 @@ use Rattle.tagged.proofs.ListLaws.{read-end, read-stop, read-more, read
 use Rattle.tagged.proofs.SortLaws.{sort-back}
 use Rattle.tagged.proofs.ListBytes.{Run, stop, more, many-run, Stops, Stands, Each, none, more, run-read, list-many, list-read, placed-unplaced}
 use Rattle.tagged.proofs.JudgeLaws.{then-tells, ended-tells, last-written}
+
+-- fields that are passed lie within the list
+run-within : {wanted : Sort → Bool} {body : Body} {base : ℕ} {l : List ℕ} {m : ℕ} → Run wanted body base l m → m ≤ length l
+run-within (stop off) = omega arith
+run-within {l = l} (more {m = j} p is tail) = omega (arith, run-within tail, length-drop j l, p .bytes, p .whole .within)
+
+pub many-within : (wanted : Sort → Bool) (body : Body) (base owner : ℕ) (l : List ℕ) (r : Step) (m : ℕ) →
+    r ≡ many wanted (fieldBy body) base owner l → r ≡ Step.Past m → m ≤ length l
+many-within wanted body base owner l r m p q = run-within (many-run wanted body (length l) base owner l m (omega arith) (sym p ∙ q))
 
 -- a run over all fields is one over the wanted ones, where every other has a fault
 pub only-wanted : (wanted : Sort → Bool) (body : Body) → ((base : ℕ) (s : Sort) (l : List ℕ) → AllBytes l → body base s l ≡ Judged.Fine → wanted s ≡ true) →

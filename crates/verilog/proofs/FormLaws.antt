@@ -11,9 +11,9 @@ use borrow.Author.Tests.{ltb-true, ltb-false, ne-eqb}
 use mir.Val.{hasKey}
 use types.Run.{OneOf, miss}
 use denote.Enum.Declared as enums
-use Rattle.tagged.specs.Sorts.{sortOf, onExpression, onStatement, isDeclaration, isSort}
-use Rattle.tagged.specs.Fields.{Stepper, Body, fieldBy, thenBy, fixedThen, ended, further, many, anySort, untilEnd}
-use Rattle.tagged.specs.Declarations.{declarationBody, declarationsStep}
+use Rattle.tagged.specs.Sorts.{sortOf, onExpression, onStatement, isSort}
+use Rattle.tagged.specs.Fields.{Stepper, fieldBy, thenBy, fixedThen, ended, further, many, anySort, untilEnd}
+use Rattle.tagged.specs.Declarations.{declarationsStep}
 use Rattle.tagged.specs.declared.sorts.ExpressionSort.{ExpressionSort}
 use Rattle.tagged.specs.declared.sorts.ExpressionSort.the-variants as ExpressionSort
 use Rattle.tagged.specs.declared.sorts.StatementSort.{StatementSort}
@@ -29,7 +29,6 @@ use Rattle.tagged.proofs.ByteLaws.{rest}
 use Rattle.tagged.proofs.SortLaws.{sort-back, is-itself}
 use Rattle.tagged.proofs.FieldLaws.{then-past, then-refused, fixed-short, fixed-then, ended-fine, ended-over}
 use Rattle.tagged.proofs.ListLaws.{turn-done, turn-refused}
-use Rattle.tagged.proofs.ListBytes.{Run, stop, more, many-run}
 use Rattle.verilog.specs.Form.{expressionParts, expressionOf, expressionBody, constantOf, constantBody, statementParts, statementOf, statementBody}
 use Rattle.verilog.specs.Form.{blockOf, blockBody, itemOf, itemBody, processOf, processBody, moduleOf, moduleBody}
 
@@ -249,19 +248,6 @@ module _ (d : ℕ) (h : d ≡ 0 → ⊥) (at : ℕ) (s : Sort) (l : List ℕ) wh
 
   pub module-of : s ≡ Sort.Module → (w : Judged) → w ≡ thenBy declarationsStep (untilEnd (fieldBy (processBody (d - 1)))) (at + 3) at l → w ≡ moduleBody d at s l
   module-of q w p = p ∙ rw (module-step d h) (same-sort Sort.Module s _ at q)
-
--- fields that are passed lie within the list
-run-within : {wanted : Sort → Bool} {body : Body} {base : ℕ} {l : List ℕ} {m : ℕ} → Run wanted body base l m → m ≤ length l
-run-within (stop off) = omega arith
-run-within {l = l} (more {m = j} {k = k} p is tail) = omega (arith, run-within tail, length-drop j l, p .bytes, p .whole .within)
-
-pub many-within : (wanted : Sort → Bool) (body : Body) (base owner : ℕ) (l : List ℕ) (r : Step) (m : ℕ) →
-    r ≡ many wanted (fieldBy body) base owner l → r ≡ Step.Past m → m ≤ length l
-many-within wanted body base owner l r m p q = run-within (many-run wanted body (length l) base owner l m (omega arith) (sym p ∙ q))
-
-pub declarations-within : (base owner : ℕ) (l : List ℕ) (r : Step) (m : ℕ) → r ≡ declarationsStep base owner l → r ≡ Step.Past m → m ≤ length l
-unfolding declarationsStep
-declarations-within base owner l r m p q = many-within isDeclaration declarationBody base owner l r m p q
 
 -- a list until the end: one turn of a loop that has come to the index `at` of the list
 module _ (one : Stepper) (base owner : ℕ) (l : List ℕ) (at : ℕ)

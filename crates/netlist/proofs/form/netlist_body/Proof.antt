@@ -5,7 +5,8 @@ use Rattle.tagged.specs.Fields.{thenBy}
 use Rattle.tagged.specs.Declarations.{declarationsStep}
 use Rattle.netlist.specs.Form.{cellsStep, drivesJudge}
 use Rattle.tagged.proofs.FieldLaws.{then-refused, then-past}
-use Rattle.netlist.proofs.FormLaws.{declarations-within, netlist-lists, netlist-other}
+use Rattle.tagged.proofs.DeclarationBytes.{declarations-within}
+use Rattle.netlist.proofs.FormLaws.{netlist-lists, netlist-other}
 use borrow.Author.Needs.{needs}
 use Rattle.netlist.proofs.form.netlist_body.Statement.{statement}
 use Rattle.netlist.proofs.form.netlist_body.Tie as tie

@@ -13,8 +13,9 @@ use Rattle.tagged.proofs.ByteLaws.{front}
 use Rattle.tagged.proofs.FieldLaws.{open-whole, field-refused, field-past, past-within, then-refused, then-past}
 use Rattle.tagged.proofs.ListLaws.{further-zero, turn-done, turn-stop, turn-refused, turn-past}
 use Rattle.verilog.specs.Form.{statementBody, itemBody}
+use Rattle.tagged.proofs.RunLaws.{many-within}
 use Rattle.verilog.proofs.FormLaws.{statement-deep, statement-other, statement-of, block-deep, block-other, block-of, item-deep, item-other, item-of}
-use Rattle.verilog.proofs.FormLaws.{many-within, until-done, until-refused}
+use Rattle.verilog.proofs.FormLaws.{until-done, until-refused}
 use borrow.Fn.Kinds.{In}
 use borrow.Fn.PlainCycle.{Measures, is, falls, and}
 use Rattle.verilog.proofs.form.block.Reads as block
