@@ -24,7 +24,7 @@ runAnswer file row room = afterAnswer (netlistAnswer file) (rowAnswer (fileWidth
 abbrev pub cycleOf : List ℕ → List ℕ → Outcome (List ℕ)
 cycleOf file row = netlistCycle (netlistIn file) (rowNumbers (length (fileWidths file)) row)
 
--- what the row that is written then holds; an accepted run never stops (proofs/RunLaws), so the second line is never reached
+-- what the row that is written then holds; an accepted run never stops (proofs/NeverStops), so the second line is never reached
 abbrev pub rowLeft : Answer → Outcome (List ℕ) → List ℕ → List ℕ
 rowLeft Answer.Accepted (got after) next = rowBytes after
 rowLeft Answer.Accepted stopped next = next

@@ -2,7 +2,7 @@
 ghost use mathlib.Core.Path.{_≡_};
 ghost use Prim.Native.Nat.{_^_, _≤_};
 ghost use lib.ListN.{length, getD, set};
-ghost use Rattle.tagged.specs.Fields.{unplaced, passedBytes};
+ghost use Rattle.tagged.specs.Fields.{unplaced};
 ghost use Rattle.tagged.specs.Rows.{rowAnswer};
 ghost use Rattle.tagged.specs.declared.answers.Answer.the-variants as Answer;
 ghost use Rattle.netlist.specs.Reading.{drivesAt};
@@ -14,13 +14,12 @@ use crate::Operand;
 use crate::reading::NextCell;
 use crate::reading::NextDrive;
 use crate::reading::cell_in;
+use crate::reading::declared_bytes;
 use crate::reading::drive_in;
 use crate::reading::next_cell;
 use crate::reading::next_drive;
 use tagged::bytes::from;
-use tagged::declarations::declarations;
 use tagged::declarations::payload_at;
-use tagged::fields::Step;
 use tagged::limits::Cells;
 use tagged::limits::Variables;
 use tagged::rows::read_row;
@@ -36,8 +35,12 @@ use words::put_bit;
 fn number_at(numbers: &[u32], index: u32) -> u32
     ensures { λ r. ⌜ r ≡ getD (now (numbers .entry)) index 0 ⌝ }
 {
-    let at = index as usize;
-    if at < numbers.len() { numbers[at] } else { 0 }
+    let place = index as usize;
+    if place < numbers.len() {
+        numbers[place]
+    } else {
+        0
+    }
 }
 
 // Puts a number at an index, if there is room for it.
@@ -172,23 +175,13 @@ fn run_drives(list: &[u8], row: &[u32], values: &[u32], next: &mut [u32])
     }
 }
 
-// How many bytes a step passed.
-fn bytes_passed(step: Step) -> usize
-    ensures { λ r. ⌜ r ≡ passedBytes step ⌝ }
-{
-    match step {
-        Step::Past(bytes) => bytes,
-        Step::Refused(_) => 0,
-    }
-}
-
 // One cycle of a netlist that is accepted, from a row that fits, into a row of the same length.
 pub fn write_cycle(file: &[u8], row: &[u8], next: &mut [u8])
     requires { ⌜ (netlistAnswer (now file) ≡ Answer.Accepted) × (rowAnswer (fileWidths (now file)) (now row) (length (now next)) ≡ Answer.Accepted) ⌝ }
     ensures { λ r. ⌜ now (next .exit) ≡ rowLeft Answer.Accepted (cycleOf (now (file .entry)) (now (row .entry))) (now (next .entry)) ⌝ }
 {
     let payload = from(file, 3);
-    let cells = from(payload, bytes_passed(declarations(payload, 0, 0)));
+    let cells = from(payload, declared_bytes(payload));
     let mut numbers = [0u32; Variables::MAX];
     read_row(row, &mut numbers);
     let mut values = [0u32; Cells::MAX];

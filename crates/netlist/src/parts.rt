@@ -4,8 +4,8 @@ ghost use Prim.Native.Nat.{_+_, _^_, _≤_};
 ghost use lib.ListN.{length};
 ghost use Rattle.netlist.specs.Parts.{partIn, cellPart};
 use crate::reading::NextCell;
+use crate::reading::declared_bytes;
 use crate::reading::next_cell;
-use crate::rules::declared_bytes;
 use tagged::bytes::from;
 
 // From the first byte of a field to the byte past its last.

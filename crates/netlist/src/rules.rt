@@ -10,7 +10,7 @@ ghost use Rattle.tagged.specs.Fields.{passedBytes, unplaced};
 ghost use Rattle.tagged.specs.Files.{fileAnswer};
 ghost use Rattle.tagged.specs.Limits.{mostVariables, longestNetlist};
 ghost use Rattle.tagged.specs.Refusals.{firstBroken, orElse, firstRefusal};
-ghost use Rattle.tagged.specs.Declarations.{Declaration, widthOf, sortOfDeclaration, registerMark, tableOf, declarationsStep};
+ghost use Rattle.tagged.specs.Declarations.{Declaration, widthOf, sortOfDeclaration, registerMark, tableOf};
 ghost use Rattle.tagged.specs.declared.answers.Answer.the-variants as answers;
 ghost use Rattle.tagged.specs.declared.answers.Rule.the-variants as ruled;
 ghost use Rattle.tagged.specs.declared.fields.Step.the-variants as steps;
@@ -28,6 +28,7 @@ use crate::Operand;
 use crate::reading::NextCell;
 use crate::reading::NextDrive;
 use crate::reading::cell_in;
+use crate::reading::declared_bytes;
 use crate::reading::drive_in;
 use crate::reading::next_cell;
 use crate::reading::next_drive;
@@ -37,10 +38,8 @@ use tagged::answers::Rule;
 use tagged::bytes::byte_at;
 use tagged::bytes::from;
 use tagged::declarations::declaration_broken;
-use tagged::declarations::declarations;
 use tagged::declarations::payload_at;
 use tagged::declarations::variable_table;
-use tagged::fields::Step;
 use tagged::limits::Cells;
 use tagged::limits::CellsMade;
 use tagged::limits::Variables;
@@ -478,17 +477,6 @@ fn cells_broken(rule: Rule, list: &[u8], base: usize, variables: &[u8], register
             let drives = from(list, bytes);
             drives_broken(rule, drives, base + bytes, variables, registers, cells)
         }
-    }
-}
-
-// How many bytes the declarations of a payload take.
-pub fn declared_bytes(payload: &[u8]) -> usize
-    requires { ⌜ length (now payload) ≤ 2 ^ 40 ⌝ }
-    ensures { λ r. ⌜ r ≡ passedBytes (declarationsStep 0 0 (now (payload .entry))) ⌝ }
-{
-    match declarations(payload, 0, 0) {
-        Step::Past(bytes) => bytes,
-        Step::Refused(_) => 0,
     }
 }
 

@@ -31,7 +31,7 @@ use Rattle.tagged.specs.declared.answers.Rule.{Rule}
 use Rattle.tagged.specs.declared.answers.Rule.the-variants as Rule
 use Rattle.tagged.proofs.sorts.Sort as sorts
 use Rattle.tagged.proofs.answers.Rule as rules
-use Rattle.tagged.proofs.FieldLaws.{Whole, open-whole, whole-open}
+use Rattle.tagged.proofs.FieldLaws.{Whole, open-whole}
 use Rattle.tagged.proofs.ListLaws.{read-end, read-stop, read-more, read-anywhere}
 
 -- the variants of a sort but a declaration, as a match counts them
@@ -121,10 +121,6 @@ next-whole l d n e = go (openOf 0 0 l) refl e
     go : (o : Opened) → openOf 0 0 l ≡ o → onField o (λ s n. onDeclaration s (λ d. Next.Declaration d n) Next.Ended) Next.Ended ≡ Next.Declaration d n → Whole l (Sort.Declaration d) n
     go (Opened.Field s k) p q = found s k (open-whole 0 0 l p) (isDeclaration s) refl q
     go (Opened.Refused x) p q = absurd (let z : _≡_ {A = ℕ} 0 1 = cc in omega arith)
-
-pub next-found : (l : List ℕ) (d : DeclarationSort) (n : ℕ) → Whole l (Sort.Declaration d) n → nextIn l ≡ Next.Declaration d n
-unfolding nextIn
-next-found l d n w = rw (whole-open 0 0 l w)
 
 -- the list ends where no whole declaration stands
 pub next-ended : (base : ℕ) (l : List ℕ) → nextIn l ≡ Next.Ended → declarationsAt base l ≡ []

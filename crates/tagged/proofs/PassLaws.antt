@@ -12,7 +12,7 @@ use Rattle.tagged.specs.Fields.{placedBy}
 use Rattle.tagged.specs.Refusals.{firstBroken}
 use Rattle.tagged.specs.declared.answers.Found.{Found}
 use Rattle.tagged.specs.declared.answers.Found.the-variants as Found
-use Rattle.tagged.proofs.RefusalLaws.{front-passes, nowhere-passes}
+use Rattle.tagged.proofs.RefusalLaws.{nowhere-passes}
 use Rattle.tagged.proofs.PlaceLaws.{member-stands, index-stands}
 
 -- each element of the second list passes, after the first list and those before it in the second
@@ -28,10 +28,6 @@ module _ {A : Type 0} {Pass : List A → A → Type 0} where
   each-append none-after h = rw append-nil at h
   each-append {b} (more-after p r) h = more-after p (each-append {b = b} r (rw append-assoc h))
 
-  pub each-split : {earlier : List A} (a : List A) {b : List A} → EachAfter Pass earlier (a ++ b) → EachAfter Pass earlier a × EachAfter Pass (earlier ++ a) b
-  each-split [] h = (none-after, rw append-nil h)
-  each-split (x ∷ a) (more-after p r) = let s = each-split a r in (more-after p (s .0), rw append-assoc at (s .1))
-
 module _ {A : Type 0} (breaks : List A → A → Bool) (bytes : A → List ℕ) where
   -- none breaks the rule, so it has no place
   pub each-nowhere : {Pass : List A → A → Type 0} → ((earlier : List A) (a : A) → Pass earlier a → breaks earlier a ≡ false) →
@@ -39,15 +35,6 @@ module _ {A : Type 0} (breaks : List A → A → Bool) (bytes : A → List ℕ) 
   unfolding firstBroken placedBy
   each-nowhere passes base none-after = refl
   each-nowhere passes {earlier} base (more-after {a = a} p r) = rw (passes earlier a p) (each-nowhere passes (base + length (bytes a)) r)
-
-  -- and the other way round
-  pub nowhere-each : (earlier l : List A) (base : ℕ) → firstBroken breaks earlier (placedBy bytes base l) ≡ Found.Nowhere →
-      EachAfter (λ before a. breaks before a ≡ false) earlier l
-  unfolding placedBy
-  nowhere-each earlier [] base e = none-after
-  nowhere-each earlier (a ∷ l) base e =
-      let f = front-passes breaks earlier (record { place = base; what = a }) (placedBy bytes (base + length (bytes a)) l) e in
-      more-after (f .0) (nowhere-each (earlier ++ (a ∷ [])) l (base + length (bytes a)) (f .1))
 
   -- no place: every element passes after some that are fewer than all
   pub record PassesAfter (l : List A) (a : A) : Type 0 where

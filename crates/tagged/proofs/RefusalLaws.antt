@@ -30,9 +30,6 @@ pub nowhere-both : (a b : Found) → orElse a b ≡ Found.Nowhere → (a ≡ Fou
 nowhere-both (Found.At p) b e = at-not-nowhere e
 nowhere-both Found.Nowhere b e = (refl, e)
 
-pub both-nowhere : (a b : Found) → a ≡ Found.Nowhere → b ≡ Found.Nowhere → orElse a b ≡ Found.Nowhere
-both-nowhere a b e f = rw (e, f)
-
 pub data OneOf (a b : Found) (p : ℕ) : Type 0 where
   one : a ≡ Found.At p → OneOf a b p
   other : a ≡ Found.Nowhere → b ≡ Found.At p → OneOf a b p
@@ -128,9 +125,6 @@ module _ {A : Type 0} (breaks : List A → A → Bool) where
       rw here (first-at (earlier ++ (y .what ∷ [])) s (rw append-assoc e)
       (λ b q z t less. rw append-assoc (others (y .what ∷ b) q z (next t) (omega arith))))
 
-  pub broken-at : (earlier : List A) (l : List (Placed A)) (p : ℕ) → FirstBreak earlier l p → firstBroken breaks earlier l ≡ Found.At p
-  broken-at earlier l p f = first-at earlier (f .stands) (f .broken) (f .others)
-
 -- rules in rising order of their numbers, the first not below `from`
 pub data Rising : ℕ → List Rule → Type 0 where
   done : {from : ℕ} → Rising from []
@@ -209,15 +203,6 @@ module _ (broken : Rule → Found) where
   each-none [] h = none
   each-none (r ∷ rules) h = more (h r (List·Memᴰ·head refl)) (each-none rules (λ k m. h k (List·Memᴰ·tail m)))
 
-  pub first-split : {k : Rule} {p : ℕ} {rules : List Rule} → FirstRule k p rules →
-      (before after : List Rule) × (rules ≡ before ++ (k ∷ after)) × NoneBroken before × (broken k ≡ Found.At p)
-  first-split (here {rules = rules} same h) = ([], rules, rw same, none, h)
-  first-split (later {r} h f) = let s = first-split f in (r ∷ s .0, s .1, ap (λ l. r ∷ l) (s .2), more h (s .3), s .4)
-
-  pub split-first : {k : Rule} {p : ℕ} (before after : List Rule) → NoneBroken before → broken k ≡ Found.At p → FirstRule k p (before ++ (k ∷ after))
-  split-first [] after u h = here refl h
-  split-first (r ∷ before) after (more n u) h = later n (split-first before after u h)
-
   -- the same by the rules' numbers, where the list has them in rising order
   pub first-lower : {k : Rule} {p from : ℕ} {rules : List Rule} → Rising from rules → FirstRule k p rules →
       (j : Rule) → List·Memᴰ j rules → numberOf j < numberOf k → broken j ≡ Found.Nowhere
@@ -235,7 +220,3 @@ module _ (broken : Rule → Found) where
   pub first-broken : {k : Rule} {p : ℕ} {rules : List Rule} → FirstRule k p rules → broken k ≡ Found.At p
   first-broken (here same h) = h
   first-broken (later h f) = first-broken f
-
-  pub first-member : {k : Rule} {p : ℕ} {rules : List Rule} → FirstRule k p rules → List·Memᴰ k rules
-  first-member (here same h) = List·Memᴰ·head same
-  first-member (later h f) = List·Memᴰ·tail (first-member f)

@@ -11,8 +11,8 @@ use borrow.Author.Needs.{needs}
 use Rattle.netlist.proofs.cycle.write_cycle.Statement.{statement}
 use Rattle.netlist.proofs.cycle.write_cycle.Tie as tie
 
-declarations-requires : tie.Need-declarations-requires
-declarations-requires c κs =
+declared-bytes-requires : tie.Need-declared-bytes-requires
+declared-bytes-requires c κs =
     let args = c .before .before .before .before .args in
     let pre = c .before .before .before .before .pre in
     let short = file-short (args .file .now) (args .row .now) (args .next .now) (pre .0) (pre .1) in
@@ -20,77 +20,68 @@ declarations-requires c κs =
 
 run-cells-requires : tie.Need-run-cells-requires
 run-cells-requires c κs =
-    let from = c .before .before .before .before .before .before .before .before .from in
-    let bytes-passed = c .before .before .before .before .before .before .bytes-passed in
+    let from = c .before .before .before .before .before .before .before .from in
+    let declared-bytes = c .before .before .before .before .before .before .declared-bytes in
     let from2 = c .before .before .before .before .before .from2 in
-    let args = c .before .before .before .before .before .before .before .before .before .before .before .before .args in
-    let pre = c .before .before .before .before .before .before .before .before .before .before .before .before .pre in
+    let args = c .before .before .before .before .before .before .before .before .before .before .before .args in
+    let pre = c .before .before .before .before .before .before .before .before .before .before .before .pre in
     let short = file-short (args .file .now) (args .row .now) (args .next .now) (pre .0) (pre .1) in
     let payload-short = part-short (args .file .now) 3 _ (from .ensures) short in
-    omega (arith, part-short (from .result .now) (bytes-passed .result) _ (from2 .ensures) payload-short)
+    omega (arith, part-short (from .result .now) (declared-bytes .result) _ (from2 .ensures) payload-short)
 
 run-drives-requires : tie.Need-run-drives-requires
 run-drives-requires c κs =
     let from2 = c .before .before .before .before .before .before .before .before .before .before .before .from2 in
     let run-cells = c .before .before .before .before .before .run-cells in
     let from3 = c .before .before .before .from3 in
-    let from = c .before .before .before .before .before .before .before .before .before .before .before .before .before .before .from in
-    let bytes-passed = c .before .before .before .before .before .before .before .before .before .before .before .before .bytes-passed in
-    let early = c .before .before .before .before .before .before .before .before .before .before .before .before .before .before .before .before .before .before in
-    let args = early .args in
-    let pre = early .pre in
+    let from = c .before .before .before .before .before .before .before .before .before .before .before .before .before .from in
+    let declared-bytes = c .before .before .before .before .before .before .before .before .before .before .before .before .declared-bytes in
+    let args = c .before .before .before .before .before .before .before .before .before .before .before .before .before .before .before .before .before .args in
+    let pre = c .before .before .before .before .before .before .before .before .before .before .before .before .before .before .before .before .before .pre in
     let short = file-short (args .file .now) (args .row .now) (args .next .now) (pre .0) (pre .1) in
     let payload-short = part-short (args .file .now) 3 _ (from .ensures) short in
-    let cells-short = part-short (from .result .now) (bytes-passed .result) _ (from2 .ensures) payload-short in
+    let cells-short = part-short (from .result .now) (declared-bytes .result) _ (from2 .ensures) payload-short in
     omega (arith, part-short (from2 .result .now) (run-cells .result) _ (from3 .ensures) cells-short)
 
 array-share-prefix-after : tie.Need-array-share-prefix-after
 array-share-prefix-after c =
-    let late = c .before .before .before .before .before .before .before .before .before .before in
-    let early = late .before .before .before .before .before .before .before .before .before .before in
-    let args = early .args in
-    let pre = early .pre in
+    let args = c .before .before .before .before .before .before .before .before .before .before .before .before .before .before .before .before .before .before .before .args in
+    let pre = c .before .before .before .before .before .before .before .before .before .before .before .before .before .before .before .before .before .before .before .pre in
     omega (arith, count-few (args .file .now) (args .row .now) (args .next .now) (pre .0) (pre .1))
 
 slice-aggregate-write-row : tie.Need-slice-aggregate-write-row
 slice-aggregate-write-row c =
-    let late = c .before .before .before .before .before .before .before .before .before .before in
-    let early = late .before .before .before .before .before .before .before .before .before .before .before in
-    let args = early .args in
-    let pre = early .pre in
+    let args = c .before .before .before .before .before .before .before .before .before .before .before .before .before .before .before .before .before .before .before .before .args in
+    let pre = c .before .before .before .before .before .before .before .before .before .before .before .before .before .before .before .before .before .before .before .before .pre in
     sym (length-take-le _ _ (omega (arith, count-few (args .file .now) (args .row .now) (args .next .now) (pre .0) (pre .1))))
 
 write-row-requires : tie.Need-write-row-requires
 write-row-requires c κs =
-    let late = c .before .before .before .before .before .before .before .before .before .before .before in
-    let early = late .before .before .before .before .before .before .before .before .before .before .before in
-    let args = early .args in
+    let args = c .before .before .before .before .before .before .before .before .before .before .before .before .before .before .before .before .before .before .before .before .before .args in
     let run-drives = c .before .before .before .run-drives in
-    let pre = early .pre in
+    let pre = c .before .before .before .before .before .before .before .before .before .before .before .before .before .before .before .before .before .before .before .before .before .pre in
     let few = count-few (args .file .now) (args .row .now) (args .next .now) (pre .0) (pre .1) in
     omega (arith, length-take (length (args .row .now) / 4) (run-drives .last .1 .1 .1 .0), few)
 
 returns : tie.Need-returns
 returns c =
-    let early = c .before .before .before .before .before .before .before .before .before .before .before .before .before .before .before .before in
-    let args = early .before .before .before .before .before .before .before .before .before .args in
-    let pre = early .before .before .before .before .before .before .before .before .before .pre in
-    let from2 = early .before .before .from2 in
-    let bytes-passed = early .before .before .before .bytes-passed in
-    let declarations = early .before .before .before .before .declarations in
-    let from = early .before .before .before .before .before .from in
+    let args = c .before .before .before .before .before .before .before .before .before .before .before .before .before .before .before .before .before .before .before .before .before .before .before .before .args in
+    let pre = c .before .before .before .before .before .before .before .before .before .before .before .before .before .before .before .before .before .before .before .before .before .before .before .before .pre in
+    let from2 = c .before .before .before .before .before .before .before .before .before .before .before .before .before .before .before .before .before .before .from2 in
+    let declared-bytes = c .before .before .before .before .before .before .before .before .before .before .before .before .before .before .before .before .before .before .before .declared-bytes in
+    let from = c .before .before .before .before .before .before .before .before .before .before .before .before .before .before .before .before .before .before .before .before .from in
     let run-cells = c .before .before .before .before .before .before .before .before .before .before .before .before .run-cells in
-    let read-row = early .read-row in
+    let read-row = c .before .before .before .before .before .before .before .before .before .before .before .before .before .before .before .before .read-row in
     let from3 = c .before .before .before .before .before .before .before .before .before .before .from3 in
     let run-drives = c .before .before .before .before .before .before .run-drives in
     let write-row = c .before .before .write-row in
     cycle-written (args .file .now) (args .row .now) (args .next .now) (pre .0) (pre .1) _
-    (from2 .ensures ∙ ap₂ drop (bytes-passed .ensures ∙ ap passedBytes (declarations .ensures ∙ ap (declarationsStep 0 0) (from .ensures))) (from .ensures))
+    (from2 .ensures ∙ ap₂ drop (declared-bytes .ensures ∙ ap (λ l. passedBytes (declarationsStep 0 0 l)) (from .ensures)) (from .ensures))
     _ (run-cells .ensures .ends) _ (read-row .ensures) _ _ refl (run-cells .ensures .numbers) _ (from3 .ensures) _ (run-drives .ensures) _ (write-row .ensures)
 
 pub write-cycle-spec : {M : Type 1} → statement M
 write-cycle-spec =
-    tie.close (tie.spec (λ c κs. search needs) declarations-requires (λ c κs. search needs) (λ c κs. search needs)
+    tie.close (tie.spec (λ c κs. search needs) declared-bytes-requires (λ c κs. search needs)
     (λ c. search needs) (λ c κs. search needs) (λ c. search needs) (λ c. search needs) run-cells-requires
     (λ c κs. search needs) (λ c. search needs) (λ c. search needs) (λ c. search needs) run-drives-requires
     array-share-prefix-after slice-aggregate-write-row write-row-requires (λ c. search needs) returns)

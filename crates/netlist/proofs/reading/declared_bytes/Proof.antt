@@ -1,9 +1,9 @@
--- `netlist::rules::declared_bytes` meets its contract: the step that was taken says how many. Assumes nothing.
+-- `netlist::reading::declared_bytes` meets its contract: the step that was taken says how many. Assumes nothing.
 use mathlib.Core.Path.{sym, ap, _∙_}
 use Rattle.tagged.specs.Fields.{passedBytes}
 use borrow.Author.Needs.{needs}
-use Rattle.netlist.proofs.rules.declared_bytes.Statement.{statement}
-use Rattle.netlist.proofs.rules.declared_bytes.Tie as tie
+use Rattle.netlist.proofs.reading.declared_bytes.Statement.{statement}
+use Rattle.netlist.proofs.reading.declared_bytes.Tie as tie
 
 declarations-requires : tie.Need-declarations-requires
 declarations-requires c κs = search needs
