@@ -1,13 +1,14 @@
 -- What the code writes for one cycle of an accepted netlist is what its cycle gives: the parts of the file are its lists, and the lengths fit.
 use mathlib.Core.Path.{_≡_, sym, ap, ap₂, _∙_}
-use mathlib.Core.List.{List, append-nil}
+use mathlib.Core.List.{List}
 use Prim.Native.Nat.{ℕ, _+_, _*_, _/_, _≤_}
 use native.Mathlib.Omega.{arith}
-use lib.ListN.{length, take, drop, length-drop, length-map, drop-of-length-le}
-use lib.Seq.{sets, sets-eq, take-all}
+use lib.ListN.{length, take, drop, length-drop, length-map}
+use lib.Seq.{sets, take-all}
 use Rattle.tagged.specs.Limits.{longestNetlist}
 use Rattle.tagged.specs.Fields.{thenBy, passedBytes, unplaced, sizeOf}
 use Rattle.tagged.specs.Declarations.{widthOf, declarationsStep, afterDeclarations}
+use Rattle.tagged.specs.Runs.{rowLeft}
 use Rattle.tagged.specs.Rows.{rowBytes, rowNumbers, rowAnswer}
 use Rattle.tagged.specs.declared.answers.Answer.the-variants as Answer
 use Rattle.tagged.specs.declared.fields.Step.{Step}
@@ -17,13 +18,14 @@ use Rattle.tagged.proofs.JudgeLaws.{then-tells}
 use Rattle.tagged.proofs.FileLaws.{file-fits}
 use Rattle.tagged.proofs.DeclarationBytes.{after-declared}
 use Rattle.tagged.proofs.DeclarationSizes.{variables-few}
+use Rattle.tagged.proofs.WriteLaws.{sets-all}
 use Rattle.tagged.proofs.RowLaws.{bytes-length, fits-length, numbers-front, RowAccepted, row-accepted}
 use Rattle.words.specs.Values.{Outcome}
 use Rattle.netlist.specs.Lists.{Netlist}
 use Rattle.netlist.specs.Form.{cellsStep, drivesJudge, netlistBody, netlistForm}
 use Rattle.netlist.specs.Reading.{cellsAt, drivesAt, listsIn, netlistIn}
 use Rattle.netlist.specs.Answer.{netlistAnswer}
-use Rattle.netlist.specs.Run.{fileWidths, cycleOf, rowLeft}
+use Rattle.netlist.specs.Run.{fileWidths, cycleOf}
 use Rattle.netlist.specs.Numbers.{cellNumbers, drivenNumbers}
 use Rattle.netlist.proofs.NetlistBytes.{cells-anywhere, body-fine}
 use Rattle.netlist.proofs.Accepted.{AnswerParts, answer-parts}
@@ -46,13 +48,6 @@ cells-passed file p =
     let g = then-tells cellsStep drivesJudge (3 + d .size) 0 (drop (d .size) l) (d .rest) in
     let from : afterDeclarations l ≡ drop (d .size) l = after-declared 3 0 l (d .size) (d .passed) in
     (g .size, rw from (cells-anywhere (3 + d .size) 0 (drop (d .size) l) (g .size) (g .passed)))
-
--- bytes that take all the room
-sets-all : (o bs : List ℕ) → length bs ≡ length o → sets o 0 bs ≡ bs
-sets-all o bs e =
-    let room : 0 + length bs ≤ length o = omega arith in
-    let past : length o ≤ 0 + length bs = omega arith in
-    sets-eq bs o 0 room ∙ rw (drop-of-length-le o past) (append-nil bs)
 
 -- what follows in a short part is short
 pub part-short : (l : List ℕ) (k : ℕ) (r : List ℕ) → r ≡ drop k l → length l ≤ longestNetlist → length r ≤ longestNetlist

@@ -11,6 +11,7 @@ pub mod PartLaws
 pub mod RuleParts
 pub mod RunWalks
 pub mod Accepted
+pub mod CellListed
 pub mod PassedRules
 pub mod RulesFit
 pub mod RegisterLaws
@@ -23,3 +24,4 @@ pub mod BreakTests
 pub mod WholeTests
 pub mod RefusedExactly
 pub mod Stops
+pub mod Cases

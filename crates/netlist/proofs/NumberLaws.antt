@@ -3,17 +3,16 @@
 use mathlib.Core.Path.{_≡_, refl, sym, ap, _∙_}
 use mathlib.Core.Bool.{Bool, true, false, _&&_, and-eq-true-iff, not}
 use mathlib.Core.List.{List, [], _∷_, _++_, map, map-append}
-use Prim.Native.Nat.{ℕ, suc, _+_, _≤_, _<_}
+use Prim.Native.Nat.{ℕ, _+_, _≤_, _<_}
 use native.Mathlib.Decide.{decLt}
 use native.Mathlib.Numerals.{add-one}
 use native.Mathlib.Omega.{arith}
 use lib.Dec.{eqb, leb, ltb}
 use lib.ListN.{length, getD, take, set, length-append, length-set, length-take, List·getD-map}
 use lib.Seq.{take-suc-set, getD-take, take-set-lt, take-set-le, set-out}
-use borrow.Author.Tests.{eqb-true, ltb-true, lt-ltb, le-leb, leb-true, not-false}
+use borrow.Author.Tests.{eqb-true, ltb-true, leb-true, not-false}
 use Rattle.words.specs.Limits.{greatestWidth}
 use Rattle.words.specs.Widths.{isWidth}
-use Rattle.words.specs.Bits.{putBit}
 use Rattle.words.specs.Operators.{oneWidth, oneNumber, twoWidth, twoNumber}
 use Rattle.words.specs.Values.{Value, Outcome, stopped, got, _>>=_, provided}
 use Rattle.words.specs.declared.OneOperand.{OneOperand}
@@ -38,7 +37,8 @@ use Rattle.netlist.specs.Form.{cellBytes}
 use Rattle.netlist.specs.Rules.{someOperand, operandUnlike, cellBreaks, cellsBase, netlistBroken}
 use Rattle.netlist.specs.Answer.{netlistRules, listsAnswer}
 use Rattle.netlist.specs.Cycle.{operandValue, cellValue, cellValues, driven, netlistCycle}
-use Rattle.netlist.specs.Numbers.{readNumber, oneResult, twoResult, putResult, cellNumber, cellNumbers, drivenNumbers}
+use Rattle.netlist.specs.Numbers.{readNumber, cellNumber, cellNumbers, drivenNumbers}
+use Rattle.words.proofs.ResultLaws.{one-inside, two-inside, put-inside}
 use Rattle.netlist.proofs.PassedRules.{RulePasses, nowhere-rule}
 use Rattle.netlist.proofs.NeverStops.{Shaped, empty, noValue, shaped-more, AllRun, end, and, all-run, cell-runs, broken}
 
@@ -67,19 +67,6 @@ two-own two.Or w a b = refl
 two-own two.Xor w a b = refl
 two-own two.Add w a b = refl
 two-own two.Equal w a b = refl
-
--- inside their bounds the results are the operators'
-one-inside : (op : OneOperand) (w a : ℕ) → w ≤ greatestWidth → oneResult op w a ≡ oneNumber op w a
-unfolding oneResult
-one-inside op w a h = rw (le-leb w greatestWidth h)
-
-two-inside : (op : TwoOperand) (w a b : ℕ) → w ≤ greatestWidth → twoResult op w a b ≡ twoNumber op w a b
-unfolding twoResult
-two-inside op w a b h = rw (le-leb w greatestWidth h)
-
-put-inside : (v k b : ℕ) → k < greatestWidth → b < 2 → putResult v k b ≡ putBit v k b
-unfolding putResult
-put-inside v k b h l = rw (lt-ltb k greatestWidth h, lt-ltb b 2 l)
 
 -- the numbers of values
 abbrev pub numberOf : Value → ℕ

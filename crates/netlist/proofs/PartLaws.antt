@@ -1,30 +1,20 @@
 -- The part of a cell: one turn of the loop that looks for it.
-use mathlib.Core.Path.{_≡_, refl, sym, ap, ap₂, _∙_}
-use mathlib.Core.List.{List, [], _∷_}
-use Prim.Native.Nat.{ℕ, zero, suc, _+_, _-_, _^_, _≤_}
+use mathlib.Core.Path.{_≡_, sym, ap, ap₂, _∙_}
+use mathlib.Core.List.{List}
+use Prim.Native.Nat.{ℕ, _+_, _-_, _^_, _≤_}
 use native.Mathlib.Omega.{arith}
 use lib.ListN.{length, take, drop, length-drop}
-use Rattle.tagged.specs.Fields.{Placed, sizeOf, passedBytes}
+use Rattle.tagged.specs.Fields.{sizeOf, passedBytes}
 use Rattle.tagged.specs.Declarations.{afterDeclarations, declarationsStep}
-use Rattle.tagged.specs.declared.fields.Step.{Step}
-use Rattle.tagged.specs.declared.fields.Step.the-variants as Step
 use Rattle.tagged.specs.declared.sorts.CellSort.{CellSort}
 use Rattle.netlist.specs.declared.Cell.{Cell}
-use Rattle.netlist.specs.declared.parts.Part.{Part}
+use Rattle.tagged.specs.declared.parts.Part.{Part}
 use Rattle.netlist.specs.declared.reading.NextCell.{NextCell}
 use Rattle.netlist.specs.declared.reading.NextCell.the-variants as NextCell
 use Rattle.netlist.specs.Reading.{nextCellIn, cellsAt}
 use Rattle.netlist.specs.Parts.{firstPart, partIn, cellPart}
-use Rattle.tagged.proofs.DeclarationBytes.{declarations-within}
+use Rattle.tagged.proofs.PartLaws.{drop-none, drop-one, declared-within}
 use Rattle.netlist.proofs.RuleWalks.{cell-sized, cell-placed, cell-ended}
-
-drop-none : (k : ℕ) → drop {A = Placed Cell} k [] ≡ []
-drop-none zero = refl
-drop-none (suc k) = refl
-
-drop-one : (k : ℕ) (x : Placed Cell) (l : List (Placed Cell)) → (k ≡ 0 → ⊥) → drop k (x ∷ l) ≡ drop (k - 1) l
-drop-one zero x l h = absurd (h refl)
-drop-one (suc k) x l h = let e : suc k - 1 ≡ k = omega arith in ap (λ (n : ℕ). drop n l) (sym e)
 
 -- so many cells are still to be passed at the index `at`
 abbrev pub Ahead : List ℕ → ℕ → ℕ → ℕ → ℕ → Type 0
@@ -48,14 +38,6 @@ module _ (l : List ℕ) (base number at left : ℕ) (ahead : Ahead l base number
 
     pub part-later : (left ≡ 0 → ⊥) → Ahead l base number (at + 3 + n) (left - 1)
     part-later some = ahead ∙ ap (drop left) (cell-placed l at next found base c n e) ∙ drop-one left _ _ some
-
--- the bytes that the declarations take lie within the list
-pub declared-within : (l : List ℕ) → passedBytes (declarationsStep 0 0 l) ≤ length l
-declared-within l = go (declarationsStep 0 0 l) refl
-  where
-    go : (r : Step) → r ≡ declarationsStep 0 0 l → passedBytes r ≤ length l
-    go (Step.Past m) e = declarations-within 0 0 l (Step.Past m) m e refl
-    go (Step.Refused place) e = omega arith
 
 -- the cells of a file follow its declarations
 module _ (file payload : List ℕ) (from : payload ≡ drop 3 file) (short : length file ≤ 2 ^ 40) where

@@ -4,15 +4,13 @@ use mathlib.Core.Bool.{Bool, true, false, _||_}
 use mathlib.Core.List.{List, [], _∷_, _++_, map}
 use Prim.Native.Nat.{ℕ, suc, _+_, _*_, _≤_}
 use native.Mathlib.Omega.{arith}
-use lib.ListN.{length, take, length-map, length-append}
+use lib.ListN.{length, length-map, length-append}
 use types.Run.{OneOf, miss}
 use denote.Enum.Declared as enums
 use Rattle.tagged.specs.Bytes.{twoBytes}
 use Rattle.tagged.specs.Fields.{Placed, fieldBytes, allBytesOf, placedBy}
-use Rattle.tagged.specs.Refusals.{firstBroken, orElse, firstRefusal}
-use Rattle.tagged.specs.Declarations.{Declaration, widthOf, declarationBytes, declarationBroken, tableOf, variableTable}
-use Rattle.tagged.specs.Limits.{mostVariables}
-use Rattle.tagged.specs.declared.declarations.VariableTable.{VariableTable}
+use Rattle.tagged.specs.Refusals.{firstBroken, orElse}
+use Rattle.tagged.specs.Declarations.{Declaration, declarationBytes, declarationBroken}
 use Rattle.tagged.specs.declared.answers.Rule.{Rule}
 use Rattle.tagged.specs.declared.answers.Rule.the-variants as Rule
 use Rattle.tagged.specs.declared.answers.Found.{Found}
@@ -20,7 +18,6 @@ use Rattle.tagged.specs.declared.answers.Found.the-variants as Found
 use Rattle.tagged.specs.declared.answers.Answer.{Answer}
 use Rattle.tagged.specs.declared.answers.Answer.the-variants as Answer
 use Rattle.tagged.proofs.answers.Rule as rules
-use Rattle.tagged.proofs.TableLaws.{table-length, table-front, markOf}
 use Rattle.netlist.specs.declared.Operand.{Operand}
 use Rattle.netlist.specs.declared.Cell.{Cell}
 use Rattle.netlist.specs.declared.Cell.the-variants as Cell
@@ -153,13 +150,6 @@ module _ (test : Operand → Bool) where
   pub three-operands : (o p q : Operand) (a b c d r : Bool) → a ≡ test o → b ≡ test p → c ≡ test q → d ≡ (b || c) → r ≡ (a || d) → r ≡ someOperand test (o ∷ p ∷ q ∷ [])
   three-operands o p q a b c d r ao bp cq de e = e ∙ ap₂ _||_ ao (two-operands p q b c d bp cq de)
 
--- the first place of two
-pub found-first : {r a : Found} (b : Found) {place : ℕ} → r ≡ a → r ≡ Found.At place → Found.At place ≡ orElse a b
-found-first b same found = ap (λ (f : Found). orElse f b) (sym found ∙ same)
-
-pub found-second : {r a b s : Found} → r ≡ a → r ≡ Found.Nowhere → s ≡ b → s ≡ orElse a b
-found-second {b = b} same none second = second ∙ ap (λ (f : Found). orElse f b) (sym none ∙ same)
-
 -- a cell takes at least ten bytes
 cell-bytes-least : (c : Cell) → 10 ≤ length (cellBytes c)
 unfolding cellBytes fieldBytes twoBytes allBytesOf
@@ -222,54 +212,3 @@ module _ (base : ℕ) (n : Netlist) where
   pub counts-alone : declarationBroken Rule.Count base (n .declarations) ≡ netlistBroken base n Rule.Count
   unfolding cellBreaks driveBreaks wholeBroken
   counts-alone = alone Rule.Count (λ ds earlier c. refl) (λ ds cs earlier d. refl) refl
-
--- the refusal by the first rule, or the answer of the later ones
-module _ (broken : Rule → Found) (rule : Rule) (l : List Rule) {found : Found} (same : found ≡ broken rule) where
-  pub refused-here : {place : ℕ} → found ≡ Found.At place → Answer.Refused rule place ≡ firstRefusal broken (rule ∷ l)
-  unfolding firstRefusal
-  refused-here e = rw (sym same ∙ e)
-
-  pub refused-later : found ≡ Found.Nowhere → {answer : Answer} → answer ≡ firstRefusal broken l → answer ≡ firstRefusal broken (rule ∷ l)
-  unfolding firstRefusal
-  refused-later none later = rw (sym same ∙ none) later
-
--- the front of a table that has room for all
-module _ {A : Type 0} (f : A → ℕ) (room : ℕ) (items : List A) (few : length items ≤ room) (table : List ℕ) (held : table ≡ tableOf room (map f items)) (count : ℕ)
-    (all : count ≡ length items) where
-  pub front-room : count ≤ length table
-  front-room = omega (arith, ap length held, table-length room (map f items), all)
-
-  pub front-all : take count table ≡ map f items
-  front-all =
-      let long = length-map items f in
-      ap₂ take (all ∙ sym long) held ∙ table-front room (map f items) (omega arith)
-
--- what a table of variables tells
-module _ (ds : List Declaration) (table : VariableTable) (made : table ≡ variableTable ds) where
-  pub told-widths : table .widths ≡ tableOf mostVariables (map widthOf ds)
-  unfolding variableTable
-  told-widths = ap (λ (t : VariableTable). t .widths) made
-
-  pub told-marks : table .registers ≡ tableOf mostVariables (map markOf ds)
-  unfolding variableTable
-  told-marks = ap (λ (t : VariableTable). t .registers) made
-
-  told-count : table .count ≡ length ds
-  unfolding variableTable
-  told-count = ap (λ (t : VariableTable). t .count) made
-
-  pub widths-long : length (table .widths) ≡ mostVariables
-  widths-long = ap length told-widths ∙ table-length mostVariables (map widthOf ds)
-
-  pub marks-long : length (table .registers) ≡ mostVariables
-  marks-long = ap length told-marks ∙ table-length mostVariables (map markOf ds)
-
-  module _ (told : ℕ) (whole : table .count ≤ mostVariables → told ≡ table .count) (few : length ds ≤ mostVariables) where
-    told-all : told ≡ length ds
-    told-all = whole (omega (arith, told-count)) ∙ told-count
-
-    pub widths-known : map widthOf ds ≡ take told (table .widths)
-    widths-known = sym (front-all widthOf mostVariables ds few (table .widths) told-widths told told-all)
-
-    pub marks-known : map markOf ds ≡ take told (table .registers)
-    marks-known = sym (front-all markOf mostVariables ds few (table .registers) told-marks told told-all)

@@ -3,9 +3,7 @@ use mathlib.Core.Path.{_≡_, sym, ap, ap₂, _∙_, subst}
 use mathlib.Core.List.{List, []}
 use Prim.Native.Nat.{ℕ, _+_, _^_, _≤_}
 use native.Mathlib.Omega.{arith}
-use lib.ListN.{length, getD, drop, length-drop}
-use mir.Syntax.{w8}
-use mir.Val.{Fits}
+use lib.ListN.{length, drop, length-drop}
 use Rattle.tagged.specs.Bytes.{AllBytes}
 use Rattle.tagged.specs.Limits.{longestNetlist}
 use Rattle.tagged.specs.Fields.{passedBytes, unplaced, placedBy}
@@ -26,11 +24,8 @@ use Rattle.netlist.specs.Reading.{cellsAt, drivesAt, listsIn, netlistIn}
 use Rattle.netlist.specs.Rules.{cellBreaks, driveBreaks, wholeBroken, cellsBase, drivesBase, netlistBroken}
 use Rattle.netlist.specs.RuleTests.{mostListed}
 use Rattle.netlist.proofs.NetlistBytes.{PayloadRead, written-read}
-use Rattle.netlist.proofs.RuleLaws.{found-first, found-second, few-cells, names-alone, counts-alone}
-
--- what is known of a slice's bytes
-pub read-bytes : (l : List ℕ) → ((i : ℕ) → Fits w8 (getD l i 0)) → AllBytes l
-read-bytes l h i = omega (arith, h i)
+use Rattle.tagged.proofs.RefusalLaws.{found-first, found-second}
+use Rattle.netlist.proofs.RuleLaws.{few-cells, names-alone, counts-alone}
 
 -- the payload of the file
 module _ (file : List ℕ) (bytes : AllBytes file) (accepted : fileAnswer longestNetlist file ≡ Answer.Accepted) (formed : netlistForm file ≡ Step.Past (length file))

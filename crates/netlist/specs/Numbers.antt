@@ -1,15 +1,10 @@
 -- What the code of a run computes, on every input, without stopping; proofs/NumberLaws shows that it is the cycle of an accepted netlist.
 use mathlib.Core.Path.{_≡_}
-use mathlib.Core.Bool.{cond}
 use mathlib.Core.List.{List, [], _∷_}
 use Prim.Native.Nat.{ℕ, _+_}
-use lib.Dec.{leb, ltb}
 use lib.ListN.{getD, set}
-use Rattle.words.specs.Limits.{greatestWidth}
-use Rattle.words.specs.Bits.{bit, putBit, mux}
-use Rattle.words.specs.Operators.{oneNumber, twoNumber}
-use Rattle.words.specs.declared.OneOperand.{OneOperand}
-use Rattle.words.specs.declared.TwoOperand.{TwoOperand}
+use Rattle.words.specs.Bits.{bit, mux}
+use Rattle.words.specs.Results.{oneResult, twoResult, putResult}
 use Rattle.tagged.specs.Fields.{unplaced}
 use Rattle.tagged.specs.declared.fields.Step.the-variants as Step
 use Rattle.netlist.specs.declared.Operand.{Operand}
@@ -25,16 +20,6 @@ unfoldable pub readNumber : List ℕ → List ℕ → Operand → ℕ
 readNumber row values (Operand.Constant w n) = n
 readNumber row values (Operand.Variable w n) = getD row n 0
 readNumber row values (Operand.Cell w n) = getD values n 0
-
--- the operators; 0 where a width is over 32, a bit number is not below 32, or a bit is neither 0 nor 1
-unfoldable pub oneResult : OneOperand → ℕ → ℕ → ℕ
-oneResult op w a = cond (leb w greatestWidth) (oneNumber op w a) 0
-
-unfoldable pub twoResult : TwoOperand → ℕ → ℕ → ℕ → ℕ
-twoResult op w a b = cond (leb w greatestWidth) (twoNumber op w a b) 0
-
-unfoldable pub putResult : ℕ → ℕ → ℕ → ℕ
-putResult v k b = cond (ltb k greatestWidth) (cond (ltb b 2) (putBit v k b) 0) 0
 
 -- a cell's number from its operands'; an operator works with the cell's own width
 unfoldable pub cellNumber : List ℕ → List ℕ → Cell → ℕ

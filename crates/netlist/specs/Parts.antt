@@ -5,7 +5,7 @@ use lib.ListN.{length, drop}
 use Rattle.tagged.specs.Fields.{Placed, sizeOf, passedBytes}
 use Rattle.tagged.specs.Declarations.{afterDeclarations, declarationsStep}
 use Rattle.netlist.specs.declared.Cell.{Cell}
-use Rattle.netlist.specs.declared.parts.Part.{Part}
+use Rattle.tagged.specs.declared.parts.Part.{Part}
 use Rattle.netlist.specs.Reading.{cellsAt}
 
 -- the part of the first of these cells, in the bytes that start at `base`; without a cell, nothing at their end

@@ -2,12 +2,11 @@
 use mathlib.Core.List.{List, map}
 use Prim.Native.Nat.{ℕ}
 use lib.ListN.{length}
-use Rattle.words.specs.Values.{Outcome, stopped, got}
+use Rattle.words.specs.Values.{Outcome}
 use Rattle.tagged.specs.Declarations.{widthOf}
-use Rattle.tagged.specs.Refusals.{afterAnswer}
-use Rattle.tagged.specs.Rows.{rowBytes, rowNumbers, rowAnswer}
+use Rattle.tagged.specs.Rows.{rowNumbers}
+use Rattle.tagged.specs.Runs.{runAnswerOf, rowLeft}
 use Rattle.tagged.specs.declared.answers.Answer.{Answer}
-use Rattle.tagged.specs.declared.answers.Answer.the-variants as Answer
 use Rattle.netlist.specs.Reading.{netlistIn}
 use Rattle.netlist.specs.Answer.{netlistAnswer}
 use Rattle.netlist.specs.Cycle.{netlistCycle}
@@ -18,17 +17,12 @@ fileWidths file = map widthOf (netlistIn file .declarations)
 
 -- the answer of a run on a file, a row that is read, and the length of the row that is written
 unfoldable pub runAnswer : List ℕ → List ℕ → ℕ → Answer
-runAnswer file row room = afterAnswer (netlistAnswer file) (rowAnswer (fileWidths file) row room)
+runAnswer file row room = runAnswerOf (netlistAnswer file) (fileWidths file) row room
 
 -- what a cycle gives from the numbers of a row
 abbrev pub cycleOf : List ℕ → List ℕ → Outcome (List ℕ)
 cycleOf file row = netlistCycle (netlistIn file) (rowNumbers (length (fileWidths file)) row)
 
--- what the row that is written then holds; an accepted run never stops (proofs/NeverStops), so the second line is never reached
-abbrev pub rowLeft : Answer → Outcome (List ℕ) → List ℕ → List ℕ
-rowLeft Answer.Accepted (got after) next = rowBytes after
-rowLeft Answer.Accepted stopped next = next
-rowLeft (Answer.Refused rule place) outcome next = next
-
+-- what the row that is written then holds; an accepted run never stops (proofs/NeverStops)
 unfoldable pub runLeaves : List ℕ → List ℕ → List ℕ → List ℕ
 runLeaves file row next = rowLeft (runAnswer file row (length next)) (cycleOf file row) next

@@ -1,56 +1,37 @@
 // One cycle of an accepted netlist: its cells in order, then its drives, from a row into another.
 ghost use mathlib.Core.Path.{_≡_};
 ghost use Prim.Native.Nat.{_^_, _≤_};
-ghost use lib.ListN.{length, getD, set};
+ghost use lib.ListN.{length};
 ghost use Rattle.tagged.specs.Fields.{unplaced};
+ghost use Rattle.tagged.specs.Runs.{rowLeft};
 ghost use Rattle.tagged.specs.Rows.{rowAnswer};
 ghost use Rattle.tagged.specs.declared.answers.Answer.the-variants as Answer;
 ghost use Rattle.netlist.specs.Reading.{drivesAt};
 ghost use Rattle.netlist.specs.Answer.{netlistAnswer};
-ghost use Rattle.netlist.specs.Run.{fileWidths, cycleOf, rowLeft};
-ghost use Rattle.netlist.specs.Numbers.{readNumber, oneResult, twoResult, putResult, cellNumber, CellsRan, drivenNumbers};
+ghost use Rattle.netlist.specs.Run.{fileWidths, cycleOf};
+ghost use Rattle.netlist.specs.Numbers.{readNumber, cellNumber, CellsRan, drivenNumbers};
 use crate::Cell;
 use crate::Operand;
 use crate::reading::NextCell;
 use crate::reading::NextDrive;
 use crate::reading::cell_in;
-use crate::reading::declared_bytes;
 use crate::reading::drive_in;
 use crate::reading::next_cell;
 use crate::reading::next_drive;
 use tagged::bytes::from;
+use tagged::declarations::declared_bytes;
 use tagged::declarations::payload_at;
 use tagged::limits::Cells;
 use tagged::limits::Variables;
+use tagged::rows::number_at;
+use tagged::rows::put_number;
 use tagged::rows::read_row;
 use tagged::rows::write_row;
-use words::OneOperand;
-use words::TwoOperand;
-use words::Width;
 use words::bit;
 use words::mux;
-use words::put_bit;
-
-// The number at an index, and 0 past the end.
-fn number_at(numbers: &[u32], index: u32) -> u32
-    ensures { λ r. ⌜ r ≡ getD (now (numbers .entry)) index 0 ⌝ }
-{
-    let place = index as usize;
-    if place < numbers.len() {
-        numbers[place]
-    } else {
-        0
-    }
-}
-
-// Puts a number at an index, if there is room for it.
-fn put_number(numbers: &mut [u32], at: usize, number: u32)
-    ensures { λ r. ⌜ now (numbers .exit) ≡ set (now (numbers .entry)) at number ⌝ }
-{
-    if at < numbers.len() {
-        numbers[at] = number;
-    }
-}
+use words::one_result;
+use words::put_result;
+use words::two_result;
 
 // An operand's number, from the row and the cells before.
 fn read_number(operand: Operand, row: &[u32], values: &[u32]) -> u32
@@ -60,43 +41,6 @@ fn read_number(operand: Operand, row: &[u32], values: &[u32]) -> u32
         Operand::Constant(_, number) => number,
         Operand::Variable(_, number) => number_at(row, number),
         Operand::Cell(_, number) => number_at(values, number),
-    }
-}
-
-// The result of an operator of one operand; 0 for a width over 32.
-fn one_result(op: OneOperand, width: u8, value: u32) -> u32
-    ensures { λ r. ⌜ r ≡ oneResult op width value ⌝ }
-{
-    if width <= Width::MAX {
-        op.result(width, value)
-    } else {
-        0
-    }
-}
-
-// The result of an operator of two operands; 0 for a width over 32.
-fn two_result(op: TwoOperand, width: u8, first: u32, second: u32) -> u32
-    ensures { λ r. ⌜ r ≡ twoResult op width first second ⌝ }
-{
-    if width <= Width::MAX {
-        op.result(width, first, second)
-    } else {
-        0
-    }
-}
-
-// A vector with a new bit; 0 for a bit number from 32 on, and for a bit that is neither 0 nor 1.
-fn put_result(vector: u32, number: u8, new: u32) -> u32
-    ensures { λ r. ⌜ r ≡ putResult vector number new ⌝ }
-{
-    if number < Width::MAX {
-        if new < 2 {
-            put_bit(vector, number as u32, new)
-        } else {
-            0
-        }
-    } else {
-        0
     }
 }
 

@@ -4,15 +4,10 @@ ghost use Prim.Native.Nat.{_+_, _^_, _≤_};
 ghost use lib.ListN.{length};
 ghost use Rattle.netlist.specs.Parts.{partIn, cellPart};
 use crate::reading::NextCell;
-use crate::reading::declared_bytes;
 use crate::reading::next_cell;
 use tagged::bytes::from;
-
-// From the first byte of a field to the byte past its last.
-pub struct Part {
-    pub start: usize,
-    pub end: usize,
-}
+use tagged::declarations::declared_bytes;
+use tagged::parts::Part;
 
 // The part of a cell, in a list of cells whose first byte stands at `base`; without such a cell, nothing at the end of the list.
 fn part_in(list: &[u8], base: usize, number: usize) -> Part

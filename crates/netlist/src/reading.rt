@@ -1,9 +1,6 @@
 // Cells and drives read from parts of a netlist file, by total functions: what is malformed is the end of a list.
 ghost use mathlib.Core.Path.{_≡_};
-ghost use Prim.Native.Nat.{_^_, _≤_};
-ghost use lib.ListN.{length, drop};
-ghost use Rattle.tagged.specs.Fields.{passedBytes};
-ghost use Rattle.tagged.specs.Declarations.{declarationsStep};
+ghost use lib.ListN.{drop};
 ghost use Rattle.netlist.specs.Reading.{operandIn, cellIn, driveIn, nextCellIn, nextDriveIn};
 use crate::Cell;
 use crate::Drive;
@@ -11,9 +8,7 @@ use crate::Operand;
 use tagged::bytes::byte_at;
 use tagged::bytes::four_of;
 use tagged::bytes::from;
-use tagged::declarations::declarations;
 use tagged::fields::Opened;
-use tagged::fields::Step;
 use tagged::fields::open_field;
 use tagged::sorts::CellSort;
 use tagged::sorts::Sort;
@@ -104,16 +99,5 @@ pub fn next_drive(part: &[u8]) -> NextDrive
             _ => NextDrive::Ended,
         },
         Opened::Refused(_) => NextDrive::Ended,
-    }
-}
-
-// How many bytes the declarations of a payload take.
-pub fn declared_bytes(payload: &[u8]) -> usize
-    requires { ⌜ length (now payload) ≤ 2 ^ 40 ⌝ }
-    ensures { λ r. ⌜ r ≡ passedBytes (declarationsStep 0 0 (now (payload .entry))) ⌝ }
-{
-    match declarations(payload, 0, 0) {
-        Step::Past(bytes) => bytes,
-        Step::Refused(_) => 0,
     }
 }

@@ -28,7 +28,6 @@ use crate::Operand;
 use crate::reading::NextCell;
 use crate::reading::NextDrive;
 use crate::reading::cell_in;
-use crate::reading::declared_bytes;
 use crate::reading::drive_in;
 use crate::reading::next_cell;
 use crate::reading::next_drive;
@@ -38,7 +37,9 @@ use tagged::answers::Rule;
 use tagged::bytes::byte_at;
 use tagged::bytes::from;
 use tagged::declarations::declaration_broken;
+use tagged::declarations::declared_bytes;
 use tagged::declarations::payload_at;
+use tagged::declarations::told;
 use tagged::declarations::variable_table;
 use tagged::limits::Cells;
 use tagged::limits::CellsMade;
@@ -477,17 +478,6 @@ fn cells_broken(rule: Rule, list: &[u8], base: usize, variables: &[u8], register
             let drives = from(list, bytes);
             drives_broken(rule, drives, base + bytes, variables, registers, cells)
         }
-    }
-}
-
-// How many of so many variables the table tells: at most 64.
-fn told(count: usize) -> usize
-    ensures { λ r. ⌜ (r ≤ mostVariables) × (count ≤ mostVariables → r ≡ count) ⌝ }
-{
-    if count <= Variables::MAX {
-        count
-    } else {
-        Variables::MAX
     }
 }
 

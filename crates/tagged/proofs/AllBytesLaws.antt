@@ -5,7 +5,9 @@ use Prim.Native.Nat.{ℕ, zero, suc, _*_, _/_, _%_, _≤_, _<_}
 use native.Mathlib.Nat.{suc-mul}
 use native.Mathlib.Omega.{arith}
 use lib.Dec.{lit<}
-use lib.ListN.{length, length-append}
+use lib.ListN.{length, getD, length-append}
+use mir.Syntax.{w8}
+use mir.Val.{Fits}
 use Rattle.tagged.specs.Bytes.{AllBytes, twoBytes, fourBytes}
 use Rattle.tagged.specs.Fields.{fieldBytes, allBytesOf}
 
@@ -50,3 +52,7 @@ module _ {A : Type 0} (bytes : A → List ℕ) where
       let here : length (bytes a) ≤ most = h a (List·Memᴰ·head refl) in
       let later : length (allBytesOf bytes l) ≤ length l * most = all-length most l (λ b m. h b (List·Memᴰ·tail m)) in
       rw (length-append (bytes a) (allBytesOf bytes l), suc-mul (length l) most) (omega arith)
+
+-- what is known of a slice's bytes
+pub read-bytes : (l : List ℕ) → ((i : ℕ) → Fits w8 (getD l i 0)) → AllBytes l
+read-bytes l h i = omega (arith, h i)

@@ -42,8 +42,8 @@ abbrev finding : Found → ℕ
 finding Found.Nowhere = 1_000_000
 finding (Found.At place) = place
 
--- a refusal as its number in thousands, and its place
-abbrev answering : Answer → ℕ
+-- a refusal as its number in thousands, and its place; for the tables of the crates above too
+abbrev pub answering : Answer → ℕ
 answering Answer.Accepted = 0
 answering (Answer.Refused rule place) = numberOf rule * 1000 + place
 

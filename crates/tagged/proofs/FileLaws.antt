@@ -1,19 +1,22 @@
 -- What acceptance of a file says: of its length, and that its length, its form and its rules all are accepted. By cases on the answers.
-use mathlib.Core.Path.{_≡_, refl}
+use mathlib.Core.Path.{_≡_, refl, sym, ap, _∙_}
 use mathlib.Core.Bool.{Bool, true, false, cond, _&&_}
 use mathlib.Core.List.{List}
 use Prim.Native.Nat.{ℕ, _+_, _≤_}
+use native.Mathlib.Omega.{arith}
 use lib.Dec.{leb}
 use lib.ListN.{length}
 use borrow.Author.Tests.{eqb-true, leb-true, le-leb, eq-eqb}
-use Rattle.tagged.specs.Fields.{sizeOf}
+use Rattle.tagged.specs.Fields.{sizeOf, Body, fieldBy}
 use Rattle.tagged.specs.Files.{outerFits, outerAnswer, fileAnswer}
 use Rattle.tagged.specs.Refusals.{afterForm, afterAnswer}
+use Rattle.tagged.specs.declared.answers.Rule.{Rule}
 use Rattle.tagged.specs.declared.answers.Rule.the-variants as Rule
 use Rattle.tagged.specs.declared.answers.Answer.{Answer}
 use Rattle.tagged.specs.declared.answers.Answer.the-variants as Answer
 use Rattle.tagged.specs.declared.fields.Step.{Step}
 use Rattle.tagged.specs.declared.fields.Step.the-variants as Step
+use Rattle.tagged.proofs.FieldLaws.{field-passed}
 use Rattle.tagged.proofs.RefusalLaws.{refused-not-accepted}
 
 -- a file to which refusal 1 does not apply: its length is allowed, and its outer length is the rest of it
@@ -43,3 +46,28 @@ pub accepted-parts : (a : Answer) (s : Step) (other : Answer) → afterAnswer a 
 accepted-parts Answer.Accepted (Step.Past m) other e = (m, refl, refl, e)
 accepted-parts Answer.Accepted (Step.Refused place) other e = refused-not-accepted e
 accepted-parts (Answer.Refused rule place) s other e = refused-not-accepted e
+
+-- a file whose length was answered: its form, where it has no fault, ends where the file does
+module _ (longest : ℕ) (file : List ℕ) (fits : Answer) (lengths : fits ≡ fileAnswer longest file) where
+  pub file-long : fits ≡ Answer.Accepted → length file ≤ longest
+  file-long e = file-fits longest file (sym lengths ∙ e) .short
+
+  pub form-whole : fits ≡ Answer.Accepted → (body : Body) (m : ℕ) → fieldBy body 0 0 file ≡ Step.Past m → fieldBy body 0 0 file ≡ Step.Past (length file)
+  form-whole e body m form =
+      let whole = file-fits longest file (sym lengths ∙ e) in
+      let passed = field-passed body 0 0 file m form in
+      let all : m ≡ length file = omega (arith, passed .bytes, passed .whole .size, whole .outer) in
+      form ∙ ap Step.Past all
+
+  -- the answer of the file, from that of its length, its form, and what is answered after them
+  module _ (form : Step) (other : Answer) where
+    pub length-refused : (rule : Rule) (place : ℕ) → fits ≡ Answer.Refused rule place →
+        Answer.Refused rule place ≡ afterAnswer (fileAnswer longest file) (afterForm form other)
+    length-refused rule place e = rw (sym lengths ∙ e)
+
+    pub form-refused : fits ≡ Answer.Accepted → (place : ℕ) → form ≡ Step.Refused place →
+        Answer.Refused Rule.Form place ≡ afterAnswer (fileAnswer longest file) (afterForm form other)
+    form-refused e place f = rw (sym lengths ∙ e, f)
+
+    pub others-answered : fits ≡ Answer.Accepted → (m : ℕ) → form ≡ Step.Past m → other ≡ afterAnswer (fileAnswer longest file) (afterForm form other)
+    others-answered e m f = rw (sym lengths ∙ e, f)

@@ -15,6 +15,7 @@ pub mod ChoiceLaws
 pub mod TestLaws
 pub mod RefusalLaws
 pub mod FileLaws
+pub mod FoundLaws
 pub mod PlaceLaws
 pub mod PassLaws
 pub mod RiseLaws
@@ -24,7 +25,11 @@ pub mod DeclarationBytes
 pub mod DeclarationSizes
 pub mod DeclarationTests
 pub mod DeclarationWalks
+pub mod FieldLists
+pub mod PartLaws
+pub mod PlacedParts
 pub mod TableLaws
 pub mod RowLaws
+pub mod RunPromises
 pub mod CycleLaws
 pub mod Cases

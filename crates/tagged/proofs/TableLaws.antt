@@ -3,7 +3,7 @@ use mathlib.Core.Path.{_≡_, refl, sym, ap, ap₂, _∙_}
 use mathlib.Core.List.{List, [], _∷_, _++_, map, append-assoc, append-nil}
 use Prim.Native.Nat.{ℕ, zero, suc, _+_, _≤_, _<_}
 use native.Mathlib.Omega.{arith}
-use lib.ListN.{length, getD, take, set, replicate, length-append, length-map}
+use lib.ListN.{length, getD, take, set, replicate, length-append, length-map, length-take}
 use Rattle.tagged.specs.Limits.{mostVariables}
 use Rattle.tagged.specs.Declarations.{Declaration, widthOf, sortOfDeclaration, registerMark, tableOf, variableTable, withVariable}
 use Rattle.tagged.specs.declared.declarations.VariableTable.{VariableTable}
@@ -92,3 +92,62 @@ extend-done t l none going = rw none at going
 pub with-count : (t : VariableTable) (w m : ℕ) (r : VariableTable) → r ≡ withVariable t w m → r .count ≡ t .count + 1
 unfolding withVariable
 with-count t w m r e = ap (λ (t : VariableTable). t .count) e
+
+-- the front of a table that has room for all
+module _ {A : Type 0} (f : A → ℕ) (room : ℕ) (items : List A) (few : length items ≤ room) (table : List ℕ) (held : table ≡ tableOf room (map f items)) (count : ℕ)
+    (all : count ≡ length items) where
+  pub front-room : count ≤ length table
+  front-room = omega (arith, ap length held, table-length room (map f items), all)
+
+  pub front-all : take count table ≡ map f items
+  front-all =
+      let long = length-map items f in
+      ap₂ take (all ∙ sym long) held ∙ table-front room (map f items) (omega arith)
+
+-- what a table of variables tells
+module _ (ds : List Declaration) (table : VariableTable) (made : table ≡ variableTable ds) where
+  pub told-widths : table .widths ≡ tableOf mostVariables (map widthOf ds)
+  unfolding variableTable
+  told-widths = ap (λ (t : VariableTable). t .widths) made
+
+  pub told-marks : table .registers ≡ tableOf mostVariables (map markOf ds)
+  unfolding variableTable
+  told-marks = ap (λ (t : VariableTable). t .registers) made
+
+  told-count : table .count ≡ length ds
+  unfolding variableTable
+  told-count = ap (λ (t : VariableTable). t .count) made
+
+  pub widths-long : length (table .widths) ≡ mostVariables
+  widths-long = ap length told-widths ∙ table-length mostVariables (map widthOf ds)
+
+  pub marks-long : length (table .registers) ≡ mostVariables
+  marks-long = ap length told-marks ∙ table-length mostVariables (map markOf ds)
+
+  module _ (told : ℕ) (whole : table .count ≤ mostVariables → told ≡ table .count) (few : length ds ≤ mostVariables) where
+    told-all : told ≡ length ds
+    told-all = whole (omega (arith, told-count)) ∙ told-count
+
+    pub widths-known : map widthOf ds ≡ take told (table .widths)
+    widths-known = sym (front-all widthOf mostVariables ds few (table .widths) told-widths told told-all)
+
+    pub marks-known : map markOf ds ≡ take told (table .registers)
+    marks-known = sym (front-all markOf mostVariables ds few (table .registers) told-marks told told-all)
+
+-- a table of all the variables, as many as it counts
+module _ (ds : List Declaration) (table : VariableTable) (made : table ≡ variableTable ds) (few : length ds ≤ mostVariables) where
+  pub count-fits : table .count ≤ mostVariables
+  unfolding variableTable
+  count-fits = omega (arith, ap (λ (t : VariableTable). t .count) made)
+
+  pub front-few : length (take (table .count) (table .widths)) ≤ mostVariables
+  front-few = omega (arith, count-fits, length-take (table .count) (table .widths))
+
+  pub widths-all : take (table .count) (table .widths) ≡ map widthOf ds
+  widths-all = sym (widths-known ds table made (table .count) (λ h. refl) few)
+
+-- a new table holds zeros
+pub zeros-at : (n v : ℕ) → getD {A = ℕ} (replicate n 0) v 0 ≡ 0
+zeros-at zero v = refl
+zeros-at (suc n) zero = refl
+zeros-at (suc n) (suc v) = zeros-at n v

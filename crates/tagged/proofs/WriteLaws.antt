@@ -1,9 +1,10 @@
 -- Writing: bytes after bytes are one writing, a buffer keeps its length, and with room it holds just what was written.
 use mathlib.Core.Path.{_≡_, refl, sym, ap, _∙_}
-use mathlib.Core.List.{List, [], _∷_, _++_}
+use mathlib.Core.List.{List, [], _∷_, _++_, append-nil}
 use Prim.Native.Nat.{ℕ, suc, _+_, _≤_}
 use native.Mathlib.Nat.{add-zero, add-assoc, add-suc, suc-add}
-use lib.ListN.{length, take, drop, length-append, set}
+use native.Mathlib.Omega.{arith}
+use lib.ListN.{length, take, drop, length-append, set, drop-of-length-le}
 use lib.Seq.{sets, sets-eq, length-sets}
 use Rattle.tagged.specs.Bytes.{Wrote}
 
@@ -32,3 +33,10 @@ wrote-roomy {o} {o′} {bs} {i} w h = w .list ∙ sets-eq bs o i h
 -- the buffer keeps its length
 pub wrote-length : {o o′ bs : List ℕ} {i i′ : ℕ} → Wrote o i bs o′ i′ → length o′ ≡ length o
 wrote-length {o} {o′} {bs} {i} w = ap length (w .list) ∙ length-sets o i bs
+
+-- bytes that take all the room
+pub sets-all : (o bs : List ℕ) → length bs ≡ length o → sets o 0 bs ≡ bs
+sets-all o bs e =
+    let room : 0 + length bs ≤ length o = omega arith in
+    let past : length o ≤ 0 + length bs = omega arith in
+    sets-eq bs o 0 room ∙ rw (drop-of-length-le o past) (append-nil bs)

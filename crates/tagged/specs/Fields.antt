@@ -157,6 +157,15 @@ abbrev pub unplaced : {A : Type 0} → List (Placed A) → List A
 unplaced [] = []
 unplaced (x ∷ xs) = x .what ∷ unplaced xs
 
+-- a field that was read
+pub record Field : Type 0 where
+  pub sort : Sort
+  pub payload : List ℕ
+
+-- the fields of a list of bytes, whatever their sorts, each with its place, up to what is no whole field
+unfoldable pub fieldsAt : ℕ → List ℕ → List (Placed Field)
+fieldsAt base l = readPlaced anySort (λ s p. record { sort = s; payload = p }) base l
+
 -- a list with the places that its bytes have: each starts where the one before it ends
 unfoldable pub placedBy : {A : Type 0} → (A → List ℕ) → ℕ → List A → List (Placed A)
 placedBy bytes base [] = []

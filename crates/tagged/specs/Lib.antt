@@ -12,5 +12,7 @@ pub mod Files
 pub mod Names
 pub mod Declarations
 pub mod DeclarationPhrases
+pub mod Parts
 pub mod Rows
+pub mod Runs
 pub mod Cycles

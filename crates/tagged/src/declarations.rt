@@ -4,7 +4,7 @@ ghost use mathlib.Core.List.{[]};
 ghost use Prim.Native.Nat.{_+_, _^_, _≤_};
 ghost use lib.ListN.{length, take, drop};
 ghost use Rattle.tagged.specs.Sorts.{sortOf, isDeclaration};
-ghost use Rattle.tagged.specs.Fields.{fieldBy};
+ghost use Rattle.tagged.specs.Fields.{fieldBy, passedBytes};
 ghost use Rattle.tagged.specs.Declarations.{fixedBytes, declarationBody, declarationsStep, declarationIn, declarationsIn, declarationsAt, nextIn, valueBroken, nameTaken, nameBroken, declarationBreaks, registerMark, variableTable, withVariable};
 ghost use Rattle.tagged.specs.Limits.{mostVariables};
 ghost use Rattle.tagged.specs.Refusals.{firstBroken};
@@ -31,7 +31,7 @@ use words::WidthMade;
 use words::fits;
 
 // How many fixed bytes stand before the name.
-fn fixed_bytes(sort: DeclarationSort) -> usize
+pub fn fixed_bytes(sort: DeclarationSort) -> usize
     ensures { λ r. ⌜ r ≡ fixedBytes sort ⌝ }
 {
     match sort {
@@ -101,6 +101,17 @@ pub fn declarations(part: &[u8], base: usize, owner: usize) -> Step
         }
     }
     Step::Past(at)
+}
+
+// How many bytes the declarations of a payload take.
+pub fn declared_bytes(payload: &[u8]) -> usize
+    requires { ⌜ length (now payload) ≤ 2 ^ 40 ⌝ }
+    ensures { λ r. ⌜ r ≡ passedBytes (declarationsStep 0 0 (now (payload .entry))) ⌝ }
+{
+    match declarations(payload, 0, 0) {
+        Step::Past(bytes) => bytes,
+        Step::Refused(_) => 0,
+    }
 }
 
 // What stands next in a list of declarations.
@@ -294,5 +305,16 @@ pub fn variable_table(list: &[u8]) -> VariableTable
                 at = at + 3 + size;
             }
         }
+    }
+}
+
+// How many of so many variables the table tells: at most 64.
+pub fn told(count: usize) -> usize
+    ensures { λ r. ⌜ (r ≤ mostVariables) × (count ≤ mostVariables → r ≡ count) ⌝ }
+{
+    if count <= Variables::MAX {
+        count
+    } else {
+        Variables::MAX
     }
 }

@@ -1,7 +1,7 @@
 // Rows: four bytes for each variable, high byte first, in variable order; read, written, and tested for refusal 14.
 ghost use mathlib.Core.Path.{_≡_};
 ghost use Prim.Native.Nat.{_≤_};
-ghost use lib.ListN.{length};
+ghost use lib.ListN.{length, getD, set};
 ghost use lib.Seq.{sets};
 ghost use Rattle.tagged.specs.Limits.{mostVariables};
 ghost use Rattle.tagged.specs.Rows.{rowBytes, rowNumbers, rowsFit, rowAnswer};
@@ -70,5 +70,26 @@ pub fn write_row(values: &[u32], next: &mut [u8])
         let value = values[at];
         place = put_four(next, place, value);
         at = at + 1;
+    }
+}
+
+// The number at an index, and 0 past the end.
+pub fn number_at(numbers: &[u32], index: u32) -> u32
+    ensures { λ r. ⌜ r ≡ getD (now (numbers .entry)) index 0 ⌝ }
+{
+    let place = index as usize;
+    if place < numbers.len() {
+        numbers[place]
+    } else {
+        0
+    }
+}
+
+// Puts a number at an index, if there is room for it.
+pub fn put_number(numbers: &mut [u32], at: usize, number: u32)
+    ensures { λ r. ⌜ now (numbers .exit) ≡ set (now (numbers .entry)) at number ⌝ }
+{
+    if at < numbers.len() {
+        numbers[at] = number;
     }
 }

@@ -38,7 +38,7 @@ declares-register : {ds : List Declaration} {v : ℕ} {d : Declaration} → Decl
 declares-register number-zero = refl
 declares-register (number-more h) = declares-register h
 
-missing-register : (ds : List Declaration) (v : ℕ) → length ds ≤ v → registerAt ds v ≡ false
+pub missing-register : (ds : List Declaration) (v : ℕ) → length ds ≤ v → registerAt ds v ≡ false
 missing-register [] v h = refl
 missing-register (d ∷ ds) zero h = absurd (omega arith)
 missing-register (d ∷ ds) (suc v) h = missing-register ds v (omega arith)

@@ -17,21 +17,15 @@ use Rattle.tagged.specs.Refusals as refusals
 use Rattle.tagged.specs.Declarations as declarations
 use Rattle.tagged.specs.Declarations.{input, register}
 use Rattle.tagged.specs.declared.sorts.Kind.the-variants as Kind
+use Rattle.tagged.proofs.Cases.{answering}
 use Rattle.words.specs.declared.TwoOperand.the-variants as two-operand
 use Rattle.verilog.specs.Tree.{constant, variable, fixedBit, chosenBit, two, Statement, assign, assignBit, ifElse, end, _then_, Module}
-use Rattle.tagged.specs.declared.answers.Answer.{Answer}
-use Rattle.tagged.specs.declared.answers.Answer.the-variants as Answer
 use Rattle.verilog.specs.Form as form
 use Rattle.verilog.specs.Reading as reading
 use Rattle.verilog.specs.Nodes as nodes
 use Rattle.verilog.specs.Rules as rules
 use Rattle.verilog.specs.Answer.{treeAnswer, moduleAnswer}
 use Rattle.verilog.specs.Cycle as cycle
-
--- a refusal as its number in thousands, and its place
-abbrev answering : Answer → ℕ
-answering Answer.Accepted = 0
-answering (Answer.Refused rule place) = numberOf rule * 1000 + place
 
 -- a row of small numbers as one number, and 999 for a run that stopped
 abbrev rowCode : List ℕ → ℕ

@@ -50,18 +50,18 @@ module _ (n base owner : ℕ) (l : List ℕ) where
           fixed-then n ended base owner l long _ (ended-over _ _ _ (λ z. e (omega (arith, left, z))))
 
 -- a match found a sort among these variants
-abbrev Among : List ℕ → Sort → Type 0
+abbrev pub Among : List ℕ → Sort → Type 0
 Among keys s = OneOf keys (enums.tagOf sorts.the-type s)
 
 -- all but an expression, or a statement
-abbrev butExpression : List ℕ
+abbrev pub butExpression : List ℕ
 butExpression = 0 ∷ 1 ∷ 2 ∷ 3 ∷ 4 ∷ 5 ∷ 7 ∷ 8 ∷ 9 ∷ 10 ∷ []
 
-abbrev butStatement : List ℕ
+abbrev pub butStatement : List ℕ
 butStatement = 0 ∷ 1 ∷ 2 ∷ 4 ∷ 5 ∷ 6 ∷ 7 ∷ 8 ∷ 9 ∷ 10 ∷ []
 
 -- a match that found another sort
-not-expression : {A : Type 0} (s : Sort) (f : ExpressionSort → A) (other : A) → Among butExpression s → other ≡ onExpression s f other
+pub not-expression : {A : Type 0} (s : Sort) (f : ExpressionSort → A) (other : A) → Among butExpression s → other ≡ onExpression s f other
 not-expression Sort.Module f other k = refl
 not-expression (Sort.Declaration d) f other k = refl
 not-expression Sort.Process f other k = refl
@@ -74,7 +74,7 @@ not-expression Sort.Drive f other k = refl
 not-expression Sort.Netlist f other k = refl
 not-expression Sort.Unknown f other k = refl
 
-not-statement : {A : Type 0} (s : Sort) (f : StatementSort → A) (other : A) → Among butStatement s → other ≡ onStatement s f other
+pub not-statement : {A : Type 0} (s : Sort) (f : StatementSort → A) (other : A) → Among butStatement s → other ≡ onStatement s f other
 not-statement Sort.Module f other k = refl
 not-statement (Sort.Declaration d) f other k = refl
 not-statement Sort.Process f other k = refl
@@ -92,7 +92,7 @@ module _ (a s : Sort) where
   is-other : (s ≡ a → ⊥) → isSort a s ≡ false
   is-other e = ne-eqb _ _ (λ z. e (sym (sort-back s) ∙ ap sortOf (sym z) ∙ sort-back a))
 
-  is-missed : (keys : List ℕ) → T (not (hasKey keys (enums.tagOf sorts.the-type a))) → Among keys s → isSort a s ≡ false
+  pub is-missed : (keys : List ℕ) → T (not (hasKey keys (enums.tagOf sorts.the-type a))) → Among keys s → isSort a s ≡ false
   is-missed keys none k = is-other (λ e. miss keys (enums.tagOf sorts.the-type a) none (subst (Among keys) e k))
 
   module _ (w : Judged) (x : ℕ) where
@@ -125,7 +125,7 @@ module _ (d : ℕ) (h : d ≡ 0 → ⊥) (at : ℕ) (s : Sort) (l : List ℕ) wh
   expression-of e q w p = rw (expression-step d h, q) p
 
 -- an item's constant: another sort of expression is wrong too
-abbrev butConstant : List ℕ
+abbrev pub butConstant : List ℕ
 butConstant = 1 ∷ 2 ∷ 3 ∷ 4 ∷ 5 ∷ []
 
 module _ (at : ℕ) (e : ExpressionSort) (l : List ℕ) where
@@ -182,7 +182,7 @@ unfolding blockBody
 block-step zero h = absurd (h refl)
 block-step (suc d) h = rw sub-one
 
-abbrev butBlock : List ℕ
+abbrev pub butBlock : List ℕ
 butBlock = 0 ∷ 1 ∷ 2 ∷ 3 ∷ 4 ∷ 6 ∷ 7 ∷ 8 ∷ 9 ∷ 10 ∷ []
 
 module _ (d : ℕ) (h : d ≡ 0 → ⊥) (at : ℕ) (s : Sort) (l : List ℕ) where
@@ -201,7 +201,7 @@ unfolding itemBody
 item-step zero h = absurd (h refl)
 item-step (suc d) h = rw sub-one
 
-abbrev butItem : List ℕ
+abbrev pub butItem : List ℕ
 butItem = 0 ∷ 1 ∷ 2 ∷ 3 ∷ 5 ∷ 6 ∷ 7 ∷ 8 ∷ 9 ∷ 10 ∷ []
 
 pub not-item : (s : Sort) → Among butItem s → isSort Sort.Item s ≡ false
@@ -216,10 +216,10 @@ module _ (d : ℕ) (h : d ≡ 0 → ⊥) (at : ℕ) (s : Sort) (l : List ℕ) wh
   item-of q w p = p ∙ rw (item-step d h) (same-sort Sort.Item s _ at q)
 
 -- the same of a process and of a module, whose bodies do not recurse
-abbrev butProcess : List ℕ
+abbrev pub butProcess : List ℕ
 butProcess = 0 ∷ 1 ∷ 3 ∷ 4 ∷ 5 ∷ 6 ∷ 7 ∷ 8 ∷ 9 ∷ 10 ∷ []
 
-abbrev butModule : List ℕ
+abbrev pub butModule : List ℕ
 butModule = 1 ∷ 2 ∷ 3 ∷ 4 ∷ 5 ∷ 6 ∷ 7 ∷ 8 ∷ 9 ∷ 10 ∷ []
 
 pub process-deep : (d : ℕ) → d ≡ 0 → (at : ℕ) (s : Sort) (l : List ℕ) → Judged.Refused at ≡ processBody d at s l

@@ -3,6 +3,7 @@ pub mod FrontLaws
 pub mod FrontLists
 pub mod SortChoices
 pub mod FormLaws
+pub mod FrontReading
 pub mod ExpressionBytes
 pub mod StatementPlaces
 pub mod StatementLists
@@ -22,5 +23,6 @@ pub mod BreaksLaws
 pub mod RefusedExactly
 pub mod DeclarationsKept
 pub mod AcceptedModule
+pub mod NameListed
 pub mod Stops
 pub mod Cases

@@ -6,14 +6,14 @@ use mathlib.Core.List.{List, [], _∷_, _++_, append-nil}
 use Prim.Native.Nat.{ℕ, suc, _+_, _≤_, _<_}
 use native.Mathlib.Omega.{arith}
 use lib.ListN.{length, getD, take, drop, length-append, length-drop, take-append-drop}
-use lib.Seq.{take-all, drop-at}
+use lib.Seq.{take-all, drop-at, length-take-le}
 use borrow.Author.Tests.{eqb-true, eq-eqb, le-leb}
 use Rattle.tagged.specs.Limits.{deepest, shortestFile, longestModule}
 use Rattle.tagged.specs.Bytes.{AllBytes, twoBytes}
 use Rattle.tagged.specs.Sorts.{sortOf, tagOf, isDeclaration, isSort}
-use Rattle.tagged.specs.Fields.{fieldBytes, allBytesOf, sizeOf, fieldBy, thenBy, untilEnd, passedBytes, readPlaced, unplaced}
+use Rattle.tagged.specs.Fields.{fieldBytes, allBytesOf, sizeOf, fieldBy, thenBy, untilEnd, passedBytes, readPlaced, unplaced, placedBy}
 use Rattle.tagged.specs.Files.{fileAnswer, outerAnswer}
-use Rattle.tagged.specs.Declarations.{Declaration, sortOfDeclaration, declarationPayload, declarationBytes, declarationBody, declarationsStep, declarationRead, declarationsIn, afterDeclarations}
+use Rattle.tagged.specs.Declarations.{Declaration, sortOfDeclaration, declarationPayload, declarationBytes, declarationBody, declarationsStep, declarationRead, declarationsAt, declarationsIn, afterDeclarations}
 use Rattle.tagged.specs.declared.sorts.Sort.{Sort}
 use Rattle.tagged.specs.declared.sorts.Sort.the-variants as Sort
 use Rattle.tagged.specs.declared.fields.Judged.{Judged}
@@ -26,7 +26,7 @@ use Rattle.tagged.proofs.ByteLaws.{bytes-drop}
 use Rattle.tagged.proofs.SortLaws.{tag-back}
 use Rattle.tagged.proofs.FieldLaws.{Whole, field-passed}
 use Rattle.tagged.proofs.ListBytes.{whole-bytes, field-whole, field-length, placed-unplaced, Stops, Stands, Each, none, more}
-use Rattle.tagged.proofs.DeclarationBytes.{after-declared, declarations-read, Writable, writable-stands, declarations-pass, declarations-placed}
+use Rattle.tagged.proofs.DeclarationBytes.{after-declared, declarations-anywhere, declarations-read, Writable, writable-stands, declarations-pass, declarations-placed}
 use Rattle.verilog.specs.Tree.{Block, Module}
 use Rattle.verilog.specs.Form.{blockPayload, processBytes, modulePayload, moduleBytes, statementBody, processBody, moduleBody, moduleForm}
 use Rattle.verilog.specs.Reading.{blockIn, treeIn, moduleIn}
@@ -51,20 +51,32 @@ process-returns d base s l h fine =
     let c = sort-fine Sort.Process s (untilEnd (fieldBy (statementBody d)) (base + 3) base l) base fine in
     record { is = c .0; written = ap₂ fieldBytes (eqb-true _ _ (c .0)) (block-written d (base + 3) base l h (c .1)) }
 
--- an outer payload without a fault
-payload-written : (base owner : ℕ) (l : List ℕ) → AllBytes l → thenBy declarationsStep (untilEnd (fieldBy (processBody 31))) base owner l ≡ Judged.Fine →
-    modulePayload (treeIn l) ≡ l
+-- an outer payload without a fault: where its declarations stand and end, and what the processes after them are
+pub record PayloadRead (base : ℕ) (l : List ℕ) : Type 0 where
+  pub places : declarationsAt base l ≡ placedBy declarationBytes base (treeIn l .declarations)
+  pub declared : passedBytes (declarationsStep 0 0 l) ≡ length (allBytesOf declarationBytes (treeIn l .declarations))
+  pub processes : afterDeclarations l ≡ allBytesOf processBytes (treeIn l .processes)
+  pub written : modulePayload (treeIn l) ≡ l
+
+payload-returns : (base owner : ℕ) (l : List ℕ) → AllBytes l → thenBy declarationsStep (untilEnd (fieldBy (processBody 31))) base owner l ≡ Judged.Fine →
+    PayloadRead base l
 unfolding modulePayload treeIn
-payload-written base owner l h fine =
+payload-returns base owner l h fine =
     let t = then-tells declarationsStep (untilEnd (fieldBy (processBody 31))) base owner l fine in
     let m = t .size in
     let declared = declarations-read base owner l m h (t .passed) in
+    let passed : passedBytes (declarationsStep 0 0 l) ≡ m = ap passedBytes (declarations-anywhere base owner l m (t .passed)) in
     let after : afterDeclarations l ≡ drop m l = after-declared base owner l m (t .passed) in
-    let processes = until-returns (isSort Sort.Process) (processBody 31) (λ s p. blockIn 31 p) processBytes process-known (process-returns 30) (base + m) owner
+    let returned = until-returns (isSort Sort.Process) (processBody 31) (λ s p. blockIn 31 p) processBytes process-known (process-returns 30) (base + m) owner
     (drop m l) (bytes-drop m l h) (t .rest) in
-    ap₂ (λ (a b : List ℕ). a ++ b) (sym (declared .written))
-    (ap (λ (x : List ℕ). allBytesOf processBytes (listIn (isSort Sort.Process) (processBody 31) (λ s p. blockIn 31 p) processBytes x)) after ∙ processes)
-    ∙ take-append-drop m l
+    let processes : allBytesOf processBytes (listIn (isSort Sort.Process) (processBody 31) (λ s p. blockIn 31 p) processBytes (afterDeclarations l)) ≡ drop m l =
+    ap (λ (x : List ℕ). allBytesOf processBytes (listIn (isSort Sort.Process) (processBody 31) (λ s p. blockIn 31 p) processBytes x)) after ∙ returned in
+    record {
+      places = declared .places;
+      declared = passed ∙ sym (length-take-le m l (declared .within)) ∙ ap length (declared .written);
+      processes = after ∙ sym processes;
+      written = ap₂ (λ (a b : List ℕ). a ++ b) (sym (declared .written)) processes ∙ take-append-drop m l;
+    }
 
 -- a tag whose sort is a module's
 module-tag : (file : List ℕ) {s : Sort} {n : ℕ} → Whole file s n → isSort Sort.Module s ≡ true → getD file 0 0 ≡ tagOf Sort.Module
@@ -91,13 +103,18 @@ form-opened file h accepted m e =
       fine = rw all at (c .1);
     }
 
+-- the payload of a file without a fault
+pub form-read : (file : List ℕ) → AllBytes file → fileAnswer longestModule file ≡ Answer.Accepted → (m : ℕ) → moduleForm file ≡ Step.Past m →
+    PayloadRead 3 (drop 3 file)
+form-read file h accepted m e = payload-returns 3 0 (drop 3 file) (bytes-drop 3 file h) (form-opened file h accepted m e .fine)
+
 -- no fault means that the tree's encoding is the file
 pub form-written : (file : List ℕ) → AllBytes file → fileAnswer longestModule file ≡ Answer.Accepted → (m : ℕ) → moduleForm file ≡ Step.Past m →
     file ≡ moduleBytes (moduleIn file)
 unfolding moduleBytes
 form-written file h accepted m e =
     let o = form-opened file h accepted m e in
-    o .tagged ∙ ap (fieldBytes (tagOf Sort.Module)) (sym (payload-written 3 0 (drop 3 file) (bytes-drop 3 file h) (o .fine)))
+    o .tagged ∙ ap (fieldBytes (tagOf Sort.Module)) (sym (form-read file h accepted m e .written))
 
 -- to bytes
 

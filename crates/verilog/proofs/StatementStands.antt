@@ -98,7 +98,7 @@ item-payload : (i : ReadItem) → itemBytes i ≡ fieldBytes (tagOf Sort.Item) (
 unfolding itemBytes expressionBytes
 item-payload i = refl
 
-some-statement : (s : Statement) → 1 ≤ statementDepth s
+pub some-statement : (s : Statement) → 1 ≤ statementDepth s
 unfolding statementDepth
 some-statement (assign kind v e) = omega arith
 some-statement (assignBit kind v k e) = omega arith

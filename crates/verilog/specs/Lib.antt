@@ -6,6 +6,8 @@ pub mod Nodes
 pub mod Rules
 pub mod Answer
 pub mod Cycle
+pub mod Run
+pub mod Parts
 pub mod Quiet
 pub mod Fits
 pub mod Breaks

@@ -4,3 +4,4 @@ pub mod Widths
 pub mod Bits
 pub mod Values
 pub mod Operators
+pub mod Results

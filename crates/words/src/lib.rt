@@ -5,6 +5,7 @@ ghost use Rattle.words.specs.Limits.{greatestWidth};
 ghost use Rattle.words.specs.Widths.{madeWidth, fitsWidth, indexWithin};
 ghost use Rattle.words.specs.Bits as bits;
 ghost use Rattle.words.specs.Operators.{oneWidth, oneNumber, twoWidth, twoNumber};
+ghost use Rattle.words.specs.Results.{oneResult, twoResult, putResult};
 
 // How many bits a value has.
 pub struct Width {
@@ -196,4 +197,41 @@ pub fn mux(condition: u32, when_one: u32, when_zero: u32) -> u32
     ensures { λ r. ⌜ r ≡ bits.mux condition «when_one» «when_zero» ⌝ }
 {
     if condition == 0 { when_zero } else { when_one }
+}
+
+// The result of an operator of one operand; 0 for a width over 32.
+pub fn one_result(op: OneOperand, width: u8, value: u32) -> u32
+    ensures { λ r. ⌜ r ≡ oneResult op width value ⌝ }
+{
+    if width <= Width::MAX {
+        op.result(width, value)
+    } else {
+        0
+    }
+}
+
+// The result of an operator of two operands; 0 for a width over 32.
+pub fn two_result(op: TwoOperand, width: u8, first: u32, second: u32) -> u32
+    ensures { λ r. ⌜ r ≡ twoResult op width first second ⌝ }
+{
+    if width <= Width::MAX {
+        op.result(width, first, second)
+    } else {
+        0
+    }
+}
+
+// A vector with a new bit; 0 for a bit number from 32 on, and for a bit that is neither 0 nor 1.
+pub fn put_result(vector: u32, number: u8, new: u32) -> u32
+    ensures { λ r. ⌜ r ≡ putResult vector number new ⌝ }
+{
+    if number < Width::MAX {
+        if new < 2 {
+            put_bit(vector, number as u32, new)
+        } else {
+            0
+        }
+    } else {
+        0
+    }
 }

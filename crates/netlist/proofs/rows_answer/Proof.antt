@@ -4,9 +4,9 @@ use native.Mathlib.Omega.{arith}
 use lib.Seq.{length-take-le}
 use Rattle.tagged.specs.Declarations.{declarationsIn}
 use Rattle.tagged.specs.Rows.{rowAnswer}
-use Rattle.netlist.proofs.CallLaws.{accepted-long, count-fits, front-few, widths-told}
+use Rattle.tagged.proofs.TableLaws.{widths-long, count-fits, front-few, widths-all}
+use Rattle.netlist.proofs.CallLaws.{accepted-long, variables-told, widths-told}
 use Rattle.netlist.proofs.CycleWritten.{part-short}
-use Rattle.netlist.proofs.RuleLaws.{widths-long}
 use borrow.Author.Needs.{needs}
 use Rattle.netlist.proofs.rows_answer.Statement.{statement}
 use Rattle.netlist.proofs.rows_answer.Tie as tie
@@ -27,7 +27,7 @@ array-share-prefix-widths c =
     let pre = c .before .before .before .before .before .pre in
     let from = c .before .before .from in
     let variable-table = c .before .variable-table in
-    omega (arith, count-fits (args .file .now) pre (from .result .now) (from .ensures) (variable-table .result) (variable-table .ensures), widths-long (declarationsIn (from .result .now)) (variable-table .result) (variable-table .ensures))
+    omega (arith, count-fits (declarationsIn (from .result .now)) (variable-table .result) (variable-table .ensures) (variables-told (args .file .now) pre (from .result .now) (from .ensures)), widths-long (declarationsIn (from .result .now)) (variable-table .result) (variable-table .ensures))
 
 slice-aggregate-row-answer : tie.Need-slice-aggregate-row-answer
 slice-aggregate-row-answer c =
@@ -35,7 +35,7 @@ slice-aggregate-row-answer c =
     let args = c .before .before .before .before .before .before .args in
     let pre = c .before .before .before .before .before .before .pre in
     let from = c .before .before .before .from in
-    sym (length-take-le (variable-table .result .count) (variable-table .result .widths) (omega (arith, count-fits (args .file .now) pre (from .result .now) (from .ensures) (variable-table .result) (variable-table .ensures), widths-long (declarationsIn (from .result .now)) (variable-table .result) (variable-table .ensures))))
+    sym (length-take-le (variable-table .result .count) (variable-table .result .widths) (omega (arith, count-fits (declarationsIn (from .result .now)) (variable-table .result) (variable-table .ensures) (variables-told (args .file .now) pre (from .result .now) (from .ensures)), widths-long (declarationsIn (from .result .now)) (variable-table .result) (variable-table .ensures))))
 
 row-answer-requires : tie.Need-row-answer-requires
 row-answer-requires c κs =
@@ -43,7 +43,7 @@ row-answer-requires c κs =
     let pre = c .before .before .before .before .before .before .pre in
     let from = c .before .before .before .from in
     let variable-table = c .before .before .variable-table in
-    front-few (args .file .now) pre (from .result .now) (from .ensures) (variable-table .result) (variable-table .ensures)
+    front-few (declarationsIn (from .result .now)) (variable-table .result) (variable-table .ensures) (variables-told (args .file .now) pre (from .result .now) (from .ensures))
 
 returns : tie.Need-returns
 returns c =
@@ -52,7 +52,7 @@ returns c =
     let pre = c .before .before .before .before .before .before .before .pre in
     let from = c .before .before .before .before .from in
     let variable-table = c .before .before .before .variable-table in
-    row-answer .ensures ∙ ap (λ widths. rowAnswer widths (args .row .now) (args .next-length)) (widths-told (args .file .now) pre (from .result .now) (from .ensures) (variable-table .result) (variable-table .ensures))
+    row-answer .ensures ∙ ap (λ widths. rowAnswer widths (args .row .now) (args .next-length)) (widths-told (args .file .now) pre (from .result .now) (from .ensures) _ (widths-all (declarationsIn (from .result .now)) (variable-table .result) (variable-table .ensures) (variables-told (args .file .now) pre (from .result .now) (from .ensures))))
 
 pub rows-answer-spec : {M : Type 1} → statement M
 rows-answer-spec =

@@ -8,7 +8,8 @@ use Rattle.tagged.specs.Fields.{unplaced}
 use Rattle.netlist.specs.Reading.{drivesAt}
 use Rattle.netlist.specs.Lists.{cellWidth}
 use Rattle.netlist.specs.RuleTests.{mostListed}
-use Rattle.netlist.proofs.RuleLaws.{front-room, front-all, found-first, found-second}
+use Rattle.tagged.proofs.TableLaws.{front-room, front-all}
+use Rattle.tagged.proofs.RefusalLaws.{found-first, found-second}
 use Rattle.netlist.proofs.RuleWalks.{cellsOf}
 use borrow.Author.Needs.{needs}
 use Rattle.netlist.proofs.rules.cells_broken.Statement.{statement}

@@ -2,7 +2,8 @@
 use mathlib.Core.Path.{sym, ap, _∙_}
 use lib.ListN.{length}
 use Rattle.netlist.specs.Lists.{cellWidth}
-use Rattle.netlist.proofs.RuleLaws.{counted, found-first, found-second}
+use Rattle.tagged.proofs.RefusalLaws.{found-first, found-second}
+use Rattle.netlist.proofs.RuleLaws.{counted}
 use borrow.Author.Needs.{needs}
 use Rattle.netlist.proofs.rules.drives_broken.Statement.{statement}
 use Rattle.netlist.proofs.rules.drives_broken.Tie as tie

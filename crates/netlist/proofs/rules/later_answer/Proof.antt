@@ -5,7 +5,7 @@ use Rattle.tagged.specs.Refusals.{firstRefusal}
 use Rattle.tagged.specs.declared.answers.Rule.the-variants as Rule
 use Rattle.netlist.specs.Reading.{netlistIn}
 use Rattle.netlist.specs.Rules.{netlistBroken}
-use Rattle.netlist.proofs.RuleLaws.{refused-here, refused-later}
+use Rattle.tagged.proofs.RefusalLaws.{refused-here, refused-later}
 use borrow.Author.Needs.{needs}
 use Rattle.netlist.proofs.rules.later_answer.Statement.{statement}
 use Rattle.netlist.proofs.rules.later_answer.Tie as tie

@@ -6,8 +6,9 @@ use Rattle.tagged.specs.declared.answers.Rule.the-variants as Rule
 use Rattle.netlist.specs.Reading.{netlistIn}
 use Rattle.netlist.specs.Rules.{netlistBroken}
 use Rattle.netlist.specs.Answer.{listsAnswer}
-use Rattle.netlist.proofs.RuleLaws.{refused-here, refused-later}
-use Rattle.netlist.proofs.RuleParts.{read-bytes, payload-long, name-place, count-place, few-declared}
+use Rattle.tagged.proofs.RefusalLaws.{refused-here, refused-later}
+use Rattle.tagged.proofs.AllBytesLaws.{read-bytes}
+use Rattle.netlist.proofs.RuleParts.{payload-long, name-place, count-place, few-declared}
 use borrow.Author.Needs.{needs}
 use Rattle.netlist.proofs.rules.lists_answer.Statement.{statement}
 use Rattle.netlist.proofs.rules.lists_answer.Tie as tie

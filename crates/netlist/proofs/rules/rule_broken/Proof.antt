@@ -8,8 +8,9 @@ use lib.Seq.{length-take-le}
 use Rattle.tagged.specs.Declarations.{widthOf, declarationsIn}
 use Rattle.netlist.specs.Reading.{netlistIn}
 use Rattle.netlist.specs.Rules.{registersFrom}
-use Rattle.netlist.proofs.RuleLaws.{widths-long, marks-long, widths-known, marks-known}
-use Rattle.netlist.proofs.RuleParts.{read-bytes, payload-long, netlist-declarations, declared-first, taken-few, after-asked, netlist-cells, netlist-drives, declared-none}
+use Rattle.tagged.proofs.TableLaws.{widths-long, marks-long, widths-known, marks-known}
+use Rattle.tagged.proofs.AllBytesLaws.{read-bytes}
+use Rattle.netlist.proofs.RuleParts.{payload-long, netlist-declarations, declared-first, taken-few, after-asked, netlist-cells, netlist-drives, declared-none}
 use borrow.Author.Needs.{needs}
 use Rattle.netlist.proofs.rules.rule_broken.Statement.{statement}
 use Rattle.netlist.proofs.rules.rule_broken.Tie as tie

@@ -1,0 +1,25 @@
+-- Laws of the check: the walk over the bytes finds the first field of the tree, the tables tell what the rules ask, and so the answer is the tree's.
+pub mod TableWidths
+pub mod OtherArms
+pub mod WalkSteps
+pub mod WalkFields
+pub mod WalkExpressions
+pub mod WalkStatements
+pub mod WalkLaws
+pub mod Firsts
+pub mod SurveySteps
+pub mod FirstTables
+pub mod SurveyLaws
+pub mod EachField
+pub mod SomeField
+pub mod ProcessCount
+pub mod TableTests
+pub mod RulesByTables
+pub mod AssignmentCodes
+pub mod FirstUnlike
+pub mod TestsByCode
+pub mod Existing
+pub mod FirstAssignments
+pub mod Delayed
+pub mod TreeAnswers
+pub mod OneResult
