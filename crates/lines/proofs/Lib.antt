@@ -1,4 +1,5 @@
--- Document 01's cases marked (P), and the errors that the course keeps meeting, each table under one theorem.
+-- Document 01's cases marked (P), the errors that the course keeps meeting, and the examples of each refusal, each table under one theorem.
 pub mod Lines
 pub mod Course
 pub mod Large
+pub mod Explained
