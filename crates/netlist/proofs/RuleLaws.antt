@@ -9,7 +9,7 @@ use types.Run.{OneOf, miss}
 use denote.Enum.Declared as enums
 use Rattle.tagged.specs.Bytes.{twoBytes}
 use Rattle.tagged.specs.Fields.{Placed, fieldBytes, allBytesOf, placedBy}
-use Rattle.tagged.specs.Refusals.{firstBroken, orElse}
+use Rattle.tagged.specs.Refusals.{firstBroken}
 use Rattle.tagged.specs.Declarations.{Declaration, declarationBytes, declarationBroken}
 use Rattle.tagged.specs.declared.answers.Rule.{Rule}
 use Rattle.tagged.specs.declared.answers.Rule.the-variants as Rule
@@ -18,6 +18,7 @@ use Rattle.tagged.specs.declared.answers.Found.the-variants as Found
 use Rattle.tagged.specs.declared.answers.Answer.{Answer}
 use Rattle.tagged.specs.declared.answers.Answer.the-variants as Answer
 use Rattle.tagged.proofs.answers.Rule as rules
+use Rattle.tagged.proofs.FoundLaws.{or-nowhere}
 use Rattle.netlist.specs.declared.Operand.{Operand}
 use Rattle.netlist.specs.declared.Cell.{Cell}
 use Rattle.netlist.specs.declared.Cell.the-variants as Cell
@@ -188,10 +189,6 @@ never breaks off earlier [] = refl
 never breaks off earlier (x ∷ l) = rw (off earlier (x .what)) (never breaks off (earlier ++ (x .what ∷ [])) l)
 
 -- rules 4 and 5 are the declarations' alone
-or-nowhere : (f : Found) → f ≡ orElse f Found.Nowhere
-or-nowhere (Found.At place) = refl
-or-nowhere Found.Nowhere = refl
-
 module _ (base : ℕ) (n : Netlist) where
   alone : (rule : Rule) → ((ds : List Declaration) (earlier : List Cell) (c : Cell) → cellBreaks rule ds earlier c ≡ false)
       → ((ds : List Declaration) (cs : List Cell) (earlier : List Drive) (d : Drive) → driveBreaks rule ds cs earlier d ≡ false)
@@ -203,7 +200,7 @@ module _ (base : ℕ) (n : Netlist) where
         never (driveBreaks rule (n .declarations) (n .cells)) (drive (n .declarations) (n .cells)) [] (placedBy driveBytes (drivesBase base n) (n .drives)),
         whole,
       )
-      (or-nowhere (declarationBroken rule base (n .declarations)))
+      (sym (or-nowhere (declarationBroken rule base (n .declarations))))
 
   pub names-alone : declarationBroken Rule.Name base (n .declarations) ≡ netlistBroken base n Rule.Name
   unfolding cellBreaks driveBreaks wholeBroken

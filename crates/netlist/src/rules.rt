@@ -67,7 +67,7 @@ fn is_width(width: u8) -> bool
 }
 
 // An operand's width, whatever its kind.
-fn operand_width(operand: Operand) -> u8
+pub fn operand_width(operand: Operand) -> u8
     ensures { λ r. ⌜ r ≡ operandWidth operand ⌝ }
 {
     match operand {

@@ -10,6 +10,11 @@ use Rattle.tagged.specs.Refusals.{firstBroken, orElse}
 use Rattle.tagged.specs.declared.answers.Found.{Found}
 use Rattle.tagged.specs.declared.answers.Found.the-variants as Found
 
+-- a place, or else none
+pub or-nowhere : (f : Found) → orElse f Found.Nowhere ≡ f
+or-nowhere (Found.At place) = refl
+or-nowhere Found.Nowhere = refl
+
 -- what two lists hold, without places
 pub unplaced-append : {A : Type 0} (a b : List (Placed A)) → unplaced (a ++ b) ≡ unplaced a ++ unplaced b
 unplaced-append [] b = refl

@@ -2,3 +2,6 @@
 pub mod Tables
 pub mod Translation
 pub mod Answer
+pub mod Words
+pub mod Writing
+pub mod Log

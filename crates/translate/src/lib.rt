@@ -1,1 +1,6 @@
-// The translation of modules into netlists. Its definition stands in specs/; the code is to come.
+// The translation of modules into netlists.
+pub mod case_log;
+pub mod emit;
+pub mod expression;
+pub mod merge_words;
+pub mod packing;

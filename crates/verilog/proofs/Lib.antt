@@ -5,6 +5,7 @@ pub mod SortChoices
 pub mod FormLaws
 pub mod FrontReading
 pub mod ExpressionBytes
+pub mod WrittenFields
 pub mod StatementPlaces
 pub mod StatementLists
 pub mod StatementBytes

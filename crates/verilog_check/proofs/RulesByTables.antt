@@ -12,7 +12,7 @@ use Rattle.tagged.specs.declared.answers.Rule.the-variants as Rule
 use Rattle.tagged.specs.declared.answers.Found.{Found}
 use Rattle.tagged.specs.declared.answers.Found.the-variants as Found
 use Rattle.tagged.proofs.RefusalLaws.{passes-nowhere}
-use Rattle.tagged.proofs.FoundLaws.{found-same}
+use Rattle.tagged.proofs.FoundLaws.{or-nowhere, found-same}
 use Rattle.verilog.specs.Tree.{Module}
 use Rattle.verilog.specs.Nodes.{Node, processNodes, moduleNodes}
 use Rattle.verilog.specs.Rules.{breaks, moduleBroken}
@@ -33,11 +33,6 @@ processFields base m = processNodes 0 (afterDeclared base m) (m .processes)
 -- the first place among them by the tables of widths, registers and first assignments
 abbrev pub foundBy : List ℕ → List ℕ → List ℕ → ℕ → Module → Rule → Found
 foundBy widths marks firsts base m rule = firstBroken (λ earlier n. judged widths marks firsts rule n) [] (processFields base m)
-
--- a place, or else none
-pub or-nowhere : (f : Found) → orElse f Found.Nowhere ≡ f
-or-nowhere (Found.At p) = refl
-or-nowhere Found.Nowhere = refl
 
 module _ (base : ℕ) (m : Module) where
   abbrev ds : List Declaration

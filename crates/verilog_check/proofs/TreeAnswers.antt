@@ -22,6 +22,7 @@ use Rattle.tagged.specs.declared.answers.Answer.the-variants as Answer
 use Rattle.tagged.specs.declared.fields.Step.the-variants as Step
 use Rattle.tagged.proofs.FileLaws.{file-fits}
 use Rattle.tagged.proofs.RefusalLaws.{Agrees, agree-none, agree-more, same-refusal, passes-nowhere}
+use Rattle.tagged.proofs.FoundLaws.{or-nowhere}
 use Rattle.tagged.proofs.DeclarationSizes.{variables-few}
 use Rattle.tagged.proofs.TableLaws.{widths-known, marks-known, markOf}
 use Rattle.verilog.specs.Tree.{Expression, constant, Module}
@@ -44,7 +45,7 @@ use Rattle.verilog_check.proofs.WalkLaws.{walk-processes}
 use Rattle.verilog_check.proofs.SurveyLaws.{survey-firsts}
 use Rattle.verilog_check.proofs.TableTests.{of-reference, of-widths, of-bit-number}
 use Rattle.verilog_check.proofs.TestsByCode.{of-both-kinds, of-two-processes}
-use Rattle.verilog_check.proofs.RulesByTables.{or-nowhere, afterDeclared, processFields, foundBy, value-found, name-found, count-found, tables-found}
+use Rattle.verilog_check.proofs.RulesByTables.{afterDeclared, processFields, foundBy, value-found, name-found, count-found, tables-found}
 use Rattle.verilog_check.proofs.FirstAssignments.{assignments-found, reads-found}
 
 -- an item's test asks for no more of its case's selector than the width

@@ -20,8 +20,9 @@ use Rattle.verilog.specs.Fits.{longestField, FitsExpression, expressionDepth}
 use Rattle.verilog.specs.Reading.{noExpression, expressionWith, expressionIn}
 use Rattle.verilog.specs.Nodes.{What, expression, Node, nodeAt, expressionNodes}
 use Rattle.verilog.proofs.ExpressionBytes.{expressionAt, expression-read, some-depth, payload-short}
+use Rattle.verilog.proofs.WrittenFields.{front-field}
 use Rattle.verilog_check.specs.Walk.{Walker, walkAll, beforeOperands, walkExpression}
-use Rattle.verilog_check.proofs.WalkFields.{firstOf, first-own, front-opened, Walked, walk-none, walk-last, walk-joined}
+use Rattle.verilog_check.proofs.WalkFields.{firstOf, first-own, Walked, walk-none, walk-last, walk-joined}
 
 -- the first of these fields that the test names
 abbrev pub firstNamed : (ℕ → What → Bool) → List (Placed Node) → Found
@@ -32,7 +33,7 @@ expression-inside : (d : ℕ) (e : Expression) → FitsExpression e → expressi
     (s : ExpressionSort) (q : List ℕ) → expressionBytes e ≡ expressionField s q → expressionWith (expressionIn d) s q ≡ e
 unfolding expressionIn
 expression-inside d e fits deep long s q written =
-    sym (front-opened (expressionAt (suc d)) noExpression (Sort.Expression s) q [] (payload-short (tagOf (Sort.Expression s)) q (rw written at long)))
+    sym (front-field (Sort.Expression s) q [] (payload-short (tagOf (Sort.Expression s)) q (rw written at long)) (expressionAt (suc d)) noExpression)
     ∙ ap (λ (l : List ℕ). expressionIn (suc d) (l ++ [])) (sym written)
     ∙ expression-read (suc d) e fits deep long []
 

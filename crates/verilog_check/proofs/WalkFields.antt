@@ -6,25 +6,16 @@ use Prim.Native.Nat.{ℕ, _+_, _<_}
 use lib.ListN.{length}
 use Rattle.tagged.specs.Choice.{choose}
 use Rattle.tagged.specs.Sorts.{tagOf}
-use Rattle.tagged.specs.Fields.{Placed, fieldBytes, fieldsAt, readFrom}
+use Rattle.tagged.specs.Fields.{Placed, unplaced, fieldBytes, fieldsAt, readFrom}
 use Rattle.tagged.specs.Refusals.{firstBroken, orElse}
 use Rattle.tagged.specs.declared.sorts.Sort.{Sort}
 use Rattle.tagged.specs.declared.answers.Found.{Found}
 use Rattle.tagged.specs.declared.answers.Found.the-variants as Found
-use Rattle.tagged.proofs.FieldLaws.{whole-open}
+use Rattle.tagged.proofs.FoundLaws.{or-nowhere, found-append, found-same}
 use Rattle.tagged.proofs.FieldLists.{fields-written}
-use Rattle.tagged.proofs.ListBytes.{field-whole, field-payload, field-length}
+use Rattle.tagged.proofs.ListBytes.{field-length}
 use Rattle.tagged.proofs.SortLaws.{sort-back}
-use Rattle.verilog.specs.Reading.{frontBy}
 use Rattle.verilog_check.specs.Walk.{Walker, walkAll, ownFirst}
-
-or-nowhere : (f : Found) → orElse f Found.Nowhere ≡ f
-or-nowhere (Found.At place) = refl
-or-nowhere Found.Nowhere = refl
-
-own-or : (b : Bool) (at : ℕ) (f g : Found) → ownFirst b at (orElse f g) ≡ orElse (ownFirst b at f) g
-own-or true at f g = refl
-own-or false at f g = refl
 
 -- elements that are tested each by itself
 module _ {A : Type 0} (test : A → Bool) where
@@ -32,11 +23,7 @@ module _ {A : Type 0} (test : A → Bool) where
   firstOf l = firstBroken (λ earlier a. test a) [] l
 
   any-earlier : (earlier : List A) (l : List (Placed A)) → firstBroken (λ earlier a. test a) earlier l ≡ firstOf l
-  unfolding firstBroken
-  any-earlier earlier [] = refl
-  any-earlier earlier (x ∷ l) =
-      ap (λ (f : Found). choose (test (x .what)) (λ _. Found.At (x .place)) (λ _. f))
-      (any-earlier (earlier ++ (x .what ∷ [])) l ∙ sym (any-earlier (x .what ∷ []) l))
+  any-earlier earlier l = found-same (λ passed a. test a) (λ passed a. test a) earlier [] l (λ passed p a s. refl)
 
   -- the first by itself, then the others
   pub first-own : (x : Placed A) (l : List (Placed A)) → firstOf (x ∷ l) ≡ ownFirst (test (x .what)) (x .place) (firstOf l)
@@ -49,19 +36,7 @@ module _ {A : Type 0} (test : A → Bool) where
 
   -- one list, or else the other
   pub first-append : (l m : List (Placed A)) → firstOf (l ++ m) ≡ orElse (firstOf l) (firstOf m)
-  unfolding firstBroken
-  first-append [] m = refl
-  first-append (x ∷ l) m =
-      first-own x (l ++ m)
-      ∙ ap (ownFirst (test (x .what)) (x .place)) (first-append l m)
-      ∙ own-or (test (x .what)) (x .place) (firstOf l) (firstOf m)
-      ∙ ap (λ (f : Found). orElse f (firstOf m)) (sym (first-own x l))
-
--- the field at the front of bytes that were written
-pub front-opened : {A : Type 0} (read : Sort → List ℕ → A) (none : A) (s : Sort) (q after : List ℕ) → length q < 65536 →
-    frontBy read none (fieldBytes (tagOf s) q ++ after) ≡ read s q
-front-opened read none s q after short =
-    rw (whole-open 0 0 (fieldBytes (tagOf s) q ++ after) (field-whole (tagOf s) q after short), field-payload (tagOf s) q after, sort-back s)
+  first-append l m = found-append (λ passed a. test a) [] l m ∙ ap (orElse (firstOf l)) (any-earlier (unplaced l) m)
 
 -- these bytes are a field, and a walk that comes to it finds this
 pub record Walked (walk : Walker) (at : ℕ) (bytes : List ℕ) (found : Found) : Type 0 where

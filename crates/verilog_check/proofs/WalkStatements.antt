@@ -21,8 +21,9 @@ use Rattle.verilog.specs.Reading.{frontBy, expressionIn, noStatement, statement
 use Rattle.verilog.specs.Nodes.{What, expression, statement, itemOf, Node, nodeAt, past, expressionNodes, statementNodes, blockNodes, itemsNodes}
 use Rattle.verilog.proofs.ExpressionBytes.{expression-read, payload-short, four-length}
 use Rattle.verilog.proofs.StatementStands.{some-statement, statement-read}
+use Rattle.verilog.proofs.WrittenFields.{front-field}
 use Rattle.verilog_check.specs.Walk.{walkAll, beforeParts, walkExpression, statementOf, walkStatement, walkPart}
-use Rattle.verilog_check.proofs.WalkFields.{first-own, front-opened, Walked, walk-none, walk-last, walk-joined}
+use Rattle.verilog_check.proofs.WalkFields.{first-own, Walked, walk-none, walk-last, walk-joined}
 use Rattle.verilog_check.proofs.WalkExpressions.{firstNamed, WalksExpressions, walk-expression}
 
 -- what stands in a statement's payload is the statement
@@ -30,7 +31,7 @@ statement-inside : (d : ℕ) (s : Statement) → FitsStatement s → statementDe
     (t : StatementSort) (q : List ℕ) → statementBytes s ≡ statementField t q → statementOf d t q ≡ s
 unfolding statementIn
 statement-inside d s fits deep long t q written =
-    sym (front-opened (λ u l. statementIn (suc d) u l) noStatement (Sort.Statement t) q [] (payload-short (tagOf (Sort.Statement t)) q (rw written at long)))
+    sym (front-field (Sort.Statement t) q [] (payload-short (tagOf (Sort.Statement t)) q (rw written at long)) (λ u l. statementIn (suc d) u l) noStatement)
     ∙ rw written at (statement-read (suc d) s fits deep long [])
 
 -- an item's constant has 8 bytes
@@ -90,8 +91,8 @@ module _ (test : ℕ → What → Bool) (width : Expression → ℕ) (p : ℕ) w
         let number = constant-length w v in
         let sum = length-append (expressionBytes (constant w v)) (blockBytes b) in
         let size = field-length (tagOf Sort.Block) (blockPayload b) in
-        let front : frontBy (λ s q. getD q 0 0) 0 whole ≡ w = front-opened (λ s q. getD q 0 0) 0 (Sort.Expression ExpressionSort.Constant)
-        (w ∷ fourBytes v) (blockBytes b) (omega (arith, four-length v)) in
+        let front : frontBy (λ s q. getD q 0 0) 0 whole ≡ w = front-field (Sort.Expression ExpressionSort.Constant)
+        (w ∷ fourBytes v) (blockBytes b) (omega (arith, four-length v)) (λ s q. getD q 0 0) 0 in
         let inner : List (Placed Node) = nodeAt p (at + 3) (expression (constant w v)) ∷ blockNodes p (at + 14) b in
         let walked : walkAll (walkPart (test p) width d (width e)) (fieldsAt (at + 3) whole) ≡ firstNamed test inner =
         walk-joined _ (expressionNodes p (at + 3) (constant w v)) (blockNodes p (at + 14) b)

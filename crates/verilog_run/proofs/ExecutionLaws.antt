@@ -26,12 +26,13 @@ use Rattle.verilog.specs.Rules.{expressionWidth}
 use Rattle.verilog.specs.Fits.{longestField, All, FitsStatement, FitsBlock, FitsItems, statementDepth, statementsDepth, itemsDepth, processesDepth}
 use Rattle.verilog.specs.Cycle.{State, held, changed, execute, executeBlock, executeItems, executeAll}
 use Rattle.verilog.proofs.ExpressionBytes.{payload-short}
+use Rattle.verilog.proofs.WrittenFields.{after-field, constantBytes}
 use Rattle.verilog.proofs.Typed.{TypedStatement, assign-typed, assignBit-typed, ifElse-typed, case-typed, TypedBlock, end-typed, then-typed, TypedItems, default-typed, item-typed, TypedAll, none-typed, more-typed, WidthsFit}
 use Rattle.verilog.proofs.NeverStops.{typed-evaluates, StateFits, typed-statement-runs, typed-block-runs}
 use Rattle.verilog_run.specs.Execution.{runAll, frontBlock, runItems, runStatement, runBlock, runItem, runProcess, runProcesses}
 use Rattle.verilog_run.proofs.NumberLaws.{variable-small}
-use Rattle.verilog_run.proofs.WrittenFields.{after-field, Leads, leads-on, runs-none, item-runs, default-runs}
-use Rattle.verilog_run.proofs.PayloadLaws.{widthsOf, assign-starts, assignBit-starts, if-starts, case-starts, block-runs, front-block-runs, last-block-runs, constantBytes, item-value, item-block}
+use Rattle.verilog_run.proofs.WrittenFields.{Leads, leads-on, runs-none, item-runs, default-runs}
+use Rattle.verilog_run.proofs.PayloadLaws.{widthsOf, assign-starts, assignBit-starts, if-starts, case-starts, block-runs, front-block-runs, last-block-runs, item-value, item-block}
 
 -- what was got is one state
 got-state : (s t : State) → got s ≡ got t → s ≡ t

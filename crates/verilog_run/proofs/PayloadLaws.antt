@@ -7,29 +7,28 @@ use native.Mathlib.Omega.{arith}
 use lib.Dec.{eqb}
 use lib.ListN.{length, drop}
 use Rattle.words.specs.Results.{putResult}
-use Rattle.tagged.specs.Bytes.{fourBytes, fourOf}
+use Rattle.tagged.specs.Bytes.{fourOf}
 use Rattle.tagged.specs.Choice.{choose}
 use Rattle.tagged.specs.Fields.{fieldsAt}
 use Rattle.tagged.specs.Declarations.{Declaration, widthOf}
 use Rattle.tagged.specs.declared.sorts.Kind.{Kind}
 use Rattle.tagged.specs.declared.sorts.StatementSort.the-variants as StatementSort
-use Rattle.tagged.specs.declared.sorts.ExpressionSort.the-variants as ExpressionSort
 use Rattle.tagged.specs.declared.sorts.Sort.the-variants as Sort
 use Rattle.tagged.proofs.SortLaws.{is-itself}
 use Rattle.verilog.specs.Tree.{Expression, Block}
-use Rattle.verilog.specs.Form.{expressionField, expressionBytes, blockPayload, blockBytes}
+use Rattle.verilog.specs.Form.{expressionBytes, blockPayload, blockBytes}
 use Rattle.verilog.specs.Reading.{afterFront}
 use Rattle.verilog.specs.Fits.{longestField, FitsExpression, expressionDepth, statementsDepth}
 use Rattle.verilog.specs.Cycle.{State, held, changed}
 use Rattle.verilog.proofs.FrontLaws.{stands-after}
-use Rattle.verilog.proofs.ExpressionBytes.{four-length, four-read, expression-stands, expression-read}
+use Rattle.verilog.proofs.ExpressionBytes.{four-read, expression-stands, expression-read}
+use Rattle.verilog.proofs.WrittenFields.{front-field, constantBytes, front-constant, after-constant}
 use Rattle.verilog.proofs.Typed.{Typed, WidthsFit}
 use Rattle.verilog.proofs.NeverStops.{typed-evaluates, StateFits}
 use Rattle.verilog_run.specs.declared.evaluate.Number.{Number}
 use Rattle.verilog_run.specs.Numbers.{numberIn}
 use Rattle.verilog_run.specs.Execution.{runAll, frontNumber, assigned, assignedBit, itemValue, frontBlock, runItems, runStatement, runBlock, runItem}
 use Rattle.verilog_run.proofs.NumberLaws.{number-computed}
-use Rattle.verilog_run.proofs.WrittenFields.{front-field, after-field}
 
 -- the widths that the code holds
 abbrev pub widthsOf : List Declaration → List ℕ
@@ -94,16 +93,9 @@ module _ (widths : List ℕ) (s : State) {t : State} (b : Block) (short : length
   last-block-runs = ap (λ (l : List ℕ). frontBlock (runBlock widths d) l s) (sym (append-nil (blockBytes b))) ∙ front-block-runs []
 
 -- an item's payload: its constant, then its block
-abbrev pub constantBytes : ℕ → ℕ → List ℕ
-constantBytes w v = expressionField ExpressionSort.Constant (w ∷ fourBytes v)
-
 pub item-value : (w v : ℕ) (after : List ℕ) → v < 2 ^ 32 → itemValue (constantBytes w v ++ after) ≡ v
-item-value w v after h =
-    front-field (Sort.Expression ExpressionSort.Constant) (w ∷ fourBytes v) after (omega (arith, four-length v)) (λ u p. fourOf (drop 1 p)) 0
-    ∙ four-read v h
+item-value w v after h = front-constant w v after (λ u p. fourOf (drop 1 p)) 0 ∙ four-read v h
 
 pub item-block : (widths : List ℕ) (d w v : ℕ) (after : List ℕ) (s : State) → runItem widths (suc d) (constantBytes w v ++ after) s ≡ frontBlock (runBlock widths d) after s
 unfolding runItem
-item-block widths d w v after s =
-    ap (λ (l : List ℕ). frontBlock (runBlock widths d) l s)
-    (after-field (Sort.Expression ExpressionSort.Constant) (w ∷ fourBytes v) after (omega (arith, four-length v)))
+item-block widths d w v after s = ap (λ (l : List ℕ). frontBlock (runBlock widths d) l s) (after-constant w v after)

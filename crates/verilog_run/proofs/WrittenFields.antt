@@ -1,39 +1,18 @@
--- A field that was written, at the front of bytes: how it is opened, what follows it, and how a run of statements or of items goes on past it.
--- From the laws of fields in crate tagged. Assumes nothing.
+-- A field that was written, at the front of bytes: how a run of statements or of items goes on past it.
+-- From the laws of written fields in crate verilog. Assumes nothing.
 use mathlib.Core.Path.{_≡_, refl, sym, ap, _∙_}
-use mathlib.Core.List.{List, [], _∷_, _++_, append-nil}
+use mathlib.Core.List.{List, [], _++_, append-nil}
 use Prim.Native.Nat.{ℕ, _+_, _<_}
 use lib.Dec.{eqb}
 use lib.ListN.{length}
 use Rattle.tagged.specs.Choice.{choose}
 use Rattle.tagged.specs.Sorts.{tagOf}
-use Rattle.tagged.specs.Fields.{fieldBytes, openOf, Placed, Field, readFrom, fieldsAt}
+use Rattle.tagged.specs.Fields.{fieldBytes, Placed, Field, readFrom, fieldsAt}
 use Rattle.tagged.specs.declared.sorts.Sort.{Sort}
 use Rattle.tagged.specs.declared.sorts.Sort.the-variants as Sort
-use Rattle.tagged.specs.declared.fields.Opened.{Opened}
-use Rattle.tagged.specs.declared.fields.Opened.the-variants as Opened
-use Rattle.tagged.proofs.SortLaws.{sort-back}
-use Rattle.tagged.proofs.FieldLaws.{whole-open}
-use Rattle.tagged.proofs.ListBytes.{field-whole, field-payload, field-after}
-use Rattle.tagged.proofs.FieldLists.{fieldAt, fields-written}
-use Rattle.verilog.specs.Reading.{frontBy, afterFront}
 use Rattle.verilog.specs.Cycle.{State}
+use Rattle.verilog.proofs.WrittenFields.{fields-field}
 use Rattle.verilog_run.specs.Execution.{Runner, runAll, itemValue, runItems}
-
--- a field of this sort and payload, and what follows it
-module _ (s : Sort) (p after : List ℕ) (short : length p < 65536) where
-  opened : openOf 0 0 (fieldBytes (tagOf s) p ++ after) ≡ Opened.Field s (length p)
-  opened =
-      whole-open 0 0 (fieldBytes (tagOf s) p ++ after) (field-whole (tagOf s) p after short) ∙ ap (λ (x : Sort). Opened.Field x (length p)) (sort-back s)
-
-  pub front-field : {A : Type 0} (read : Sort → List ℕ → A) (none : A) → frontBy read none (fieldBytes (tagOf s) p ++ after) ≡ read s p
-  front-field read none = rw (opened, field-payload (tagOf s) p after)
-
-  pub after-field : afterFront (fieldBytes (tagOf s) p ++ after) ≡ after
-  after-field = rw (opened, field-after (tagOf s) p after)
-
-  pub fields-field : (base : ℕ) → fieldsAt base (fieldBytes (tagOf s) p ++ after) ≡ fieldAt base s p ∷ fieldsAt (base + (length p + 3)) after
-  fields-field base = rw (fields-written base (tagOf s) p after short, sort-back s)
 
 -- these bytes are one field, whose run leads from one state to the other
 pub record Leads (run : Runner) (bytes : List ℕ) (from to : State) : Type 0 where
