@@ -71,7 +71,7 @@ pub record Bounded (bytes : ℕ) (table : List ℕ) (w : Written) : Type 0 where
 
 -- parts together
 
-more-bytes : {a b : ℕ} {table : List ℕ} {w : Written} → a ≤ b → Bounded a table w → Bounded b table w
+pub more-bytes : {a b : ℕ} {table : List ℕ} {w : Written} → a ≤ b → Bounded a table w → Bounded b table w
 more-bytes h w = record { kept = w .kept; cells = λ few. omega (arith, h, w .cells few); changed = omega (arith, h, w .changed) }
 
 added : (bytes : ℕ) (cells : List Cell) (table : List ℕ) → length cells ≤ 128 * bytes → Bounded bytes table (record { cells = cells; table = table })
@@ -138,7 +138,7 @@ items-bounded item block item-holds block-holds selector (f ∷ l) table n =
     (nothing (length p + 3 + fieldsSize l) table)
 
 -- the block at the front
-front-bounded : (block : Translator) → ((s : Sort) (p table : List ℕ) (n : ℕ) → Bounded (length p) table (block s p table n)) →
+pub front-bounded : (block : Translator) → ((s : Sort) (p table : List ℕ) (n : ℕ) → Bounded (length p) table (block s p table n)) →
     (l table : List ℕ) (n : ℕ) → Bounded (frontSize l) table (writeFront block l table n)
 front-bounded block holds l table n =
     front-sized (λ (k : ℕ) (w : Written). Bounded k table w) (λ s p. block s p table n) (untouched table) l

@@ -21,7 +21,7 @@ use Rattle.translate.specs.Writing.{Translator, behind, untouched, byBra
 use Rattle.translate.specs.Log.{Mark, logEntries, Forward, onward, arrived, equalCell, markOf, forwardItems, mergeMark, backwardItems}
 
 -- all but an item and a block, as a match counts the sorts
-abbrev butBranch : List ℕ
+abbrev pub butBranch : List ℕ
 butBranch = 0 ∷ 1 ∷ 2 ∷ 3 ∷ 6 ∷ 7 ∷ 8 ∷ 9 ∷ 10 ∷ []
 
 not-branch : {A : Type 0} (s : Sort) (item block other : A) → Among butBranch s → byBranch s item block other ≡ other

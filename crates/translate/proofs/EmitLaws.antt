@@ -16,7 +16,7 @@ use Rattle.netlist.proofs.PutLaws.{wrote-as}
 use Rattle.translate.specs.Writing.{Emits}
 
 -- the bytes of two lists, one after the other
-bytes-joined : {A : Type 0} (bytes : A → List ℕ) (l m : List A) → allBytesOf bytes (l ++ m) ≡ allBytesOf bytes l ++ allBytesOf bytes m
+pub bytes-joined : {A : Type 0} (bytes : A → List ℕ) (l m : List A) → allBytesOf bytes (l ++ m) ≡ allBytesOf bytes l ++ allBytesOf bytes m
 unfolding allBytesOf
 bytes-joined bytes [] m = refl
 bytes-joined bytes (a ∷ l) m =

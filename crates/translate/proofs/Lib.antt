@@ -30,6 +30,9 @@ pub mod MergingSteps
 pub mod LogParts
 pub mod LogLaws
 pub mod LogSteps
+pub mod WritingSteps
+pub mod ListSteps
+pub mod ItemSteps
 pub mod MergedWords
 pub mod FittingTables
 pub mod WordTables
@@ -37,4 +40,6 @@ pub mod JoinedWords
 pub mod WrittenLists
 pub mod WrittenParts
 pub mod WrittenTrees
+pub mod StartWords
+pub mod DriveWords
 pub mod Demand3

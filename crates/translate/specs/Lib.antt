@@ -5,3 +5,4 @@ pub mod Answer
 pub mod Words
 pub mod Writing
 pub mod Log
+pub mod Ends

@@ -14,7 +14,7 @@ use Rattle.netlist.specs.declared.Operand.the-variants as Operand
 use Rattle.netlist.specs.declared.Cell.{Cell}
 use Rattle.netlist.specs.declared.Cell.the-variants as Cell
 use Rattle.translate.specs.Words.{Written, mergeWords}
-use Rattle.translate.specs.Writing.{Translator, behind, untouched, byBranch, itemOperand}
+use Rattle.translate.specs.Writing.{Emits, Translator, behind, untouched, byBranch, itemOperand, LogKept}
 
 -- the bytes of the fields of a list, each with its header
 unfoldable pub fieldsSize : List (Placed Field) → ℕ
@@ -167,3 +167,18 @@ markAt slots words past = record {
   equal = getD words (past - 1) 0 % 2 ^ 32;
   changed = record { slots = changesBelow (markStart slots past) (past - 1) slots; words = changesBelow (markStart slots past) (past - 1) words };
 }
+
+-- what the forward loop does: its cells are written, the table is what it leaves, and its marks stand in the log above `bottom`
+pub record Forwards (f : Forward) (out : List ℕ) (at n : ℕ) (slots words : List ℕ) (bottom : ℕ) (out′ : List ℕ) (at′ n′ : ℕ) (table′ slots′ words′ : List ℕ) (top′ : ℕ) : Type 0 where
+  pub emitted : Emits out at n (f .cells) out′ at′ n′
+  pub left : table′ ≡ f .table
+  pub kept : LogKept bottom slots words slots′ words′
+  pub filed : Filed slots′ words′ bottom top′ (f .marks)
+  pub counted : top′ ≡ bottom + logEntries (f .marks)
+
+-- what one item of the forward loop does: its cells are written, the table is again the one before it, and its mark is added to those in the log
+pub record Marks (cells : List Cell) (mark : Mark) (out : List ℕ) (at n : ℕ) (slots words : List ℕ) (top : ℕ) (out′ : List ℕ) (at′ n′ : ℕ) (slots′ words′ : List ℕ) (top′ : ℕ) : Type 0 where
+  pub emitted : Emits out at n cells out′ at′ n′
+  pub kept : LogKept top slots words slots′ words′
+  pub counted : top′ ≡ top + (length (mark .changed .slots) + 1)
+  pub filed : (bottom : ℕ) (marks : List Mark) → Filed slots words bottom top marks → Filed slots′ words′ bottom top′ (marks ++ (mark ∷ []))

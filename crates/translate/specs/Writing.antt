@@ -3,8 +3,8 @@
 use mathlib.Core.Path.{_≡_}
 use mathlib.Core.Bool.{cond}
 use mathlib.Core.List.{List, [], _∷_, _++_}
-use Prim.Native.Nat.{ℕ, zero, suc, _+_}
-use lib.ListN.{length, getD, drop, set}
+use Prim.Native.Nat.{ℕ, zero, suc, _+_, _*_, _^_, _≤_}
+use lib.ListN.{length, getD, take, drop, set}
 use Rattle.words.specs.declared.TwoOperand.the-variants as two-operand
 use Rattle.tagged.specs.Bytes.{Wrote, fourOf}
 use Rattle.tagged.specs.Sorts.{onStatement, isSort}
@@ -163,3 +163,26 @@ writeProcess count s l table n = cond (isSort Sort.Process s) (writeAll (writeSt
 -- the processes of a list
 unfoldable pub writeProcesses : ℕ → List ℕ → List ℕ → ℕ → Written
 writeProcesses count l table n = writeAll (writeProcess count) (fieldsAt 0 l) table n
+
+-- the log of a case, in two tables of the same length, is below `top` as it was
+pub record LogKept (top : ℕ) (slots words slots′ words′ : List ℕ) : Type 0 where
+  pub slots-below : take top slots′ ≡ take top slots
+  pub words-below : take top words′ ≡ take top words
+  pub slots-long : length slots′ ≡ length slots
+  pub words-long : length words′ ≡ length words
+
+-- what translating a part does: its cells are written, the table is what it leaves, and the log is kept below `top`
+pub record Translates (w : Written) (out : List ℕ) (at n : ℕ) (slots words : List ℕ) (top : ℕ) (out′ : List ℕ) (at′ n′ : ℕ) (table′ slots′ words′ : List ℕ) : Type 0 where
+  pub emitted : Emits out at n (w .cells) out′ at′ n′
+  pub left : table′ ≡ w .table
+  pub kept : LogKept top slots words slots′ words′
+
+-- there is room for a part of so many bytes: in the log, in the numbers of cells and in the places of bytes
+pub record Room (bytes count : ℕ) (table slots words : List ℕ) (at n top : ℕ) : Type 0 where
+  pub few : length table ≤ 128
+  pub variables : count ≤ 64
+  pub same : length words ≡ length slots
+  pub short : length slots ≤ 2 ^ 20
+  pub free : 3 * top + bytes ≤ 3 * length slots
+  pub numbers : n + 256 * bytes ≤ 2 ^ 31
+  pub places : at + 5632 * bytes ≤ 2 ^ 40
