@@ -2,7 +2,3 @@
 pub mod Tables
 pub mod Translation
 pub mod Answer
-pub mod Words
-pub mod Writing
-pub mod Log
-pub mod Ends

@@ -1,8 +1,1 @@
-// The translation of modules into netlists.
-pub mod blocks;
-pub mod case_log;
-pub mod emit;
-pub mod ends;
-pub mod expression;
-pub mod merge_words;
-pub mod packing;
+// The translation of modules into netlists: definitions and theorems; the code is crate translate_blocks' and translator's.

@@ -1,0 +1,19 @@
+-- Laws of the translator's code: what is emitted and how far counts can grow, the log of a case, and one turn of each loop.
+pub mod SortBranches
+pub mod ChangeCounts
+pub mod FieldSizes
+pub mod Bounds
+pub mod CaseLoops
+pub mod CaseTurns
+pub mod PackingLaws
+pub mod EmitLaws
+pub mod ExpressionEmits
+pub mod MergingSteps
+pub mod LogParts
+pub mod LogLaws
+pub mod LogSteps
+pub mod WritingSteps
+pub mod StartTurns
+pub mod DriveTurns
+pub mod ListSteps
+pub mod ItemSteps

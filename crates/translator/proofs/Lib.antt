@@ -1,0 +1,9 @@
+-- Why what the translator writes is the translation of the module's tree.
+pub mod MergedWords
+pub mod WordTables
+pub mod JoinedWords
+pub mod WrittenLists
+pub mod WrittenParts
+pub mod WrittenTrees
+pub mod StartWords
+pub mod DriveWords

@@ -1,0 +1,1 @@
+// The call `translate`: a module's file in, its netlist out.
