@@ -18,4 +18,5 @@ pub mod Drives
 pub mod Agrees
 pub mod AgreesAlways
 pub mod FittingTables
+pub mod CellBounds
 pub mod Demand3

@@ -40,6 +40,14 @@ module _ (count : ℕ) (firsts table : List ℕ) where
       go true = omega arith
       go false = omega arith
 
+  -- at most a drive for each mark
+  pub drives-few : (v : ℕ) (marks : List ℕ) → length (drivesFrom count firsts table v marks) ≤ length marks
+  unfolding drivesFrom
+  drives-few v [] = omega arith
+  drives-few v (mark ∷ marks) =
+      let later : List Drive = drivesFrom count firsts table (v + 1) marks in
+      rw (length-append (markedDrive count firsts table v mark) later) (omega (arith, marked-few v mark, drives-few (v + 1) marks))
+
   module _ (marks out₀ : List ℕ) (at : ℕ) where
     -- the drives of the variables passed are written, and with those that are left they make up the whole
     pub record DrivesGoing (v : ℕ) (out : List ℕ) (place : ℕ) : Type 0 where

@@ -28,10 +28,11 @@ use Rattle.translate_blocks.proofs.CaseLoops.{changes-counted, mark-sma
 use Rattle.translate_blocks.proofs.CaseTurns.{butBranch, forward-none, forward-other, forward-block, forward-item, log-more}
 use Rattle.translate_blocks.proofs.WritingSteps.{log-same, log-then, log-below, filed-stays, room-less, room-emitted}
 
-module _ (count d : ℕ) (selector : Operand) (l entry out₀ : List ℕ) (at₀ n₀ : ℕ) (slots₀ words₀ : List ℕ) (bottom : ℕ) where
-  abbrev forward : List ℕ → ℕ → ℕ → Forward
-  forward list base n = forwardItems (writeItem count d) (writeBlock count d) selector (fieldsAt base list) entry n
+-- what the fields of a list give, from a place and a number of cells
+abbrev forward : (count d : ℕ) → Operand → (entry list : List ℕ) → (base n : ℕ) → Forward
+forward count d selector entry list base n = forwardItems (writeItem count d) (writeBlock count d) selector (fieldsAt base list) entry n
 
+module _ (count d : ℕ) (selector : Operand) (l entry out₀ : List ℕ) (at₀ n₀ : ℕ) (slots₀ words₀ : List ℕ) (bottom : ℕ) where
   -- the items before the index are done
   pub record ItemsGoing (index : ℕ) (out : List ℕ) (at n : ℕ) (table slots words : List ℕ) (top : ℕ) : Type 0 where
     pub inside : index ≤ length l
@@ -43,11 +44,13 @@ module _ (count d : ℕ) (selector : Operand) (l entry out₀ : List ℕ) (at₀
     pub filed : Filed slots words bottom top marks
     pub counted : top ≡ bottom + logEntries marks
     pub room : Room (length l - index) count table slots words at n top
-    pub whole : onward cells marks (forward (drop index l) (0 + index) n) ≡ forward l 0 n₀
+    pub whole : onward cells marks (forward count d selector entry (drop index l) (0 + index) n) ≡ forward count d selector entry l 0 n₀
 
-  pub items-start : (table : List ℕ) → entry ≡ table → Room (length l) count table slots₀ words₀ at₀ n₀ bottom → ItemsGoing 0 out₀ at₀ n₀ table slots₀ words₀ bottom
+module _ {count d : ℕ} {selector : Operand} {l entry out₀ : List ℕ} {at₀ n₀ : ℕ} {slots₀ words₀ : List ℕ} {bottom : ℕ} where
+  pub items-start : {table : List ℕ} → entry ≡ table → Room (length l) count table slots₀ words₀ at₀ n₀ bottom →
+      ItemsGoing count d selector l entry out₀ at₀ n₀ slots₀ words₀ bottom 0 out₀ at₀ n₀ table slots₀ words₀ bottom
   unfolding logEntries
-  items-start table copied room = record {
+  items-start copied room = record {
     inside = omega arith;
     cells = [];
     marks = [];
@@ -60,8 +63,9 @@ module _ (count d : ℕ) (selector : Operand) (l entry out₀ : List ℕ) (at₀
     whole = refl;
   }
 
-  module _ {index : ℕ} {out : List ℕ} {at n : ℕ} {table slots words : List ℕ} {top : ℕ} (g : ItemsGoing index out at n table slots words top)
-      (opened : Opened) (found : opened ≡ openOf 0 0 (take (length l - index) (drop index l))) where
+  module _ {index : ℕ} {out : List ℕ} {at n : ℕ} {table slots words : List ℕ} {top : ℕ}
+      (g : ItemsGoing count d selector l entry out₀ at₀ n₀ slots₀ words₀ bottom index out at n table slots words top)
+      {opened : Opened} (found : opened ≡ openOf 0 0 (take (length l - index) (drop index l))) where
     ended : {f : Forward} → record { cells = g .cells; marks = g .marks; table = entry } ≡ f → Forwards f out₀ at₀ n₀ slots₀ words₀ bottom out at n table slots words top
     ended {f} e = record {
       emitted = emits-as (ap (λ (h : Forward). h .cells) (sym e)) (g .emitted);
@@ -71,14 +75,15 @@ module _ (count d : ℕ) (selector : Operand) (l entry out₀ : List ℕ) (at₀
       counted = g .counted ∙ ap (λ (h : Forward). bottom + logEntries (h .marks)) e;
     }
 
-    pub items-none : (x : ℕ) → opened ≡ Opened.Refused x → Forwards (forward l 0 n₀) out₀ at₀ n₀ slots₀ words₀ bottom out at n table slots words top
-    items-none x e = ended (forward-none l index opened found (writeItem count d) (writeBlock count d) selector entry n (g .cells) (g .marks) _ (g .whole) x e)
+    pub items-none : {x : ℕ} → opened ≡ Opened.Refused x →
+        Forwards (forward count d selector entry l 0 n₀) out₀ at₀ n₀ slots₀ words₀ bottom out at n table slots words top
+    items-none {x} e = ended (forward-none l index opened found (writeItem count d) (writeBlock count d) selector entry n (g .cells) (g .marks) _ (g .whole) x e)
 
-    module _ (s : Sort) (size : ℕ) (e : opened ≡ Opened.Field s size) where
-      pub items-other : Among butBranch s → Forwards (forward l 0 n₀) out₀ at₀ n₀ slots₀ words₀ bottom out at n table slots words top
+    module _ {s : Sort} {size : ℕ} (e : opened ≡ Opened.Field s size) where
+      pub items-other : Among butBranch s → Forwards (forward count d selector entry l 0 n₀) out₀ at₀ n₀ slots₀ words₀ bottom out at n table slots words top
       items-other k = ended (forward-other l index opened found (writeItem count d) (writeBlock count d) selector entry n (g .cells) (g .marks) _ (g .whole) s size e k)
 
-      module _ (p : List ℕ) (payload : p ≡ take size (drop (index + 3) l)) where
+      module _ {p : List ℕ} (payload : p ≡ take size (drop (index + 3) l)) where
         payload-size : length p ≤ size
         payload-size = omega (arith, ap length payload, length-take size (drop (index + 3) l))
 
@@ -88,7 +93,7 @@ module _ (count d : ℕ) (selector : Operand) (l entry out₀ : List ℕ) (at₀
         -- the block that ends them
         pub items-block : s ≡ Sort.Block → {out₁ : List ℕ} {at₁ n₁ : ℕ} {table₁ slots₁ words₁ : List ℕ} →
             Translates (writeBlock count d s p table n) out at n slots words top out₁ at₁ n₁ table₁ slots₁ words₁ →
-            Forwards (forward l 0 n₀) out₀ at₀ n₀ slots₀ words₀ bottom out₁ at₁ n₁ table₁ slots₁ words₁ top
+            Forwards (forward count d selector entry l 0 n₀) out₀ at₀ n₀ slots₀ words₀ bottom out₁ at₁ n₁ table₁ slots₁ words₁ top
         items-block is {slots₁ = slots₁} {words₁} t =
             let w : Written = writeBlock count d s p table n in
             let last = forward-block l index opened found (writeItem count d) (writeBlock count d) selector entry n (g .cells) (g .marks) _ (g .whole) s size e p payload is w
@@ -105,7 +110,7 @@ module _ (count d : ℕ) (selector : Operand) (l entry out₀ : List ℕ) (at₀
         pub items-turn : s ≡ Sort.Item → {out₁ : List ℕ} {at₁ n₁ : ℕ} {table₁ slots₁ words₁ : List ℕ} {top₁ : ℕ} → table₁ ≡ entry →
             Marks (equalCell selector p ∷ writeItem count d p entry (n + 1) .cells) (markOf entry n (writeItem count d p entry (n + 1)))
             out at n slots words top out₁ at₁ n₁ slots₁ words₁ top₁ →
-            ItemsGoing (index + 3 + size) out₁ at₁ n₁ table₁ slots₁ words₁ top₁
+            ItemsGoing count d selector l entry out₀ at₀ n₀ slots₀ words₀ bottom (index + 3 + size) out₁ at₁ n₁ table₁ slots₁ words₁ top₁
         items-turn is {n₁ = n₁} back m =
             let within : index + 3 + size ≤ length l = field-within l index opened found s size e in
             let w : Written = writeItem count d p entry (n + 1) in

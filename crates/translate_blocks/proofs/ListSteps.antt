@@ -26,19 +26,22 @@ module _ (count : ℕ) (one : Translator) (l table₀ out₀ : List ℕ) (at₀ 
     pub room : Room (length l - index) count table slots words at n top
     pub whole : behind (done .cells) (writeAll one (fieldsAt (0 + index) (drop index l)) table n) ≡ writeAll one (fieldsAt 0 l) table₀ n₀
 
-  pub list-start : Room (length l) count table₀ slots₀ words₀ at₀ n₀ top → ListGoing 0 out₀ at₀ n₀ table₀ slots₀ words₀
+module _ {count : ℕ} {one : Translator} {l table₀ out₀ : List ℕ} {at₀ n₀ : ℕ} {slots₀ words₀ : List ℕ} {top : ℕ} where
+  pub list-start : Room (length l) count table₀ slots₀ words₀ at₀ n₀ top →
+      ListGoing count one l table₀ out₀ at₀ n₀ slots₀ words₀ top 0 out₀ at₀ n₀ table₀ slots₀ words₀
   list-start room = record { inside = omega arith; long = refl; done = untouched table₀; translated = translates-none refl; room = room-less (omega arith) room; whole = refl }
 
-  module _ {index : ℕ} {out : List ℕ} {at n : ℕ} {table slots words : List ℕ} (g : ListGoing index out at n table slots words)
-      (opened : Opened) (found : opened ≡ openOf 0 0 (take (length l - index) (drop index l))) where
+  module _ {index : ℕ} {out : List ℕ} {at n : ℕ} {table slots words : List ℕ}
+      (g : ListGoing count one l table₀ out₀ at₀ n₀ slots₀ words₀ top index out at n table slots words)
+      {opened : Opened} (found : opened ≡ openOf 0 0 (take (length l - index) (drop index l))) where
     -- no field is left
-    pub list-done : (x : ℕ) → opened ≡ Opened.Refused x → Translates (writeAll one (fieldsAt 0 l) table₀ n₀) out₀ at₀ n₀ slots₀ words₀ top out at n table slots words
+    pub list-done : {x : ℕ} → opened ≡ Opened.Refused x → Translates (writeAll one (fieldsAt 0 l) table₀ n₀) out₀ at₀ n₀ slots₀ words₀ top out at n table slots words
     unfolding writeAll
-    list-done x e =
+    list-done {x} e =
         let rest : behind (g .done .cells) (untouched table) ≡ writeAll one (fieldsAt 0 l) table₀ n₀ = rw (field-none l index opened found 0 x e) at (g .whole) in
         translates-as (sym rest) (translates-then (g .translated) (translates-none refl))
 
-    module _ (s : Sort) (size : ℕ) (e : opened ≡ Opened.Field s size) (p : List ℕ) (payload : p ≡ take size (drop (index + 3) l)) where
+    module _ {s : Sort} {size : ℕ} (e : opened ≡ Opened.Field s size) {p : List ℕ} (payload : p ≡ take size (drop (index + 3) l)) where
       payload-size : length p ≤ size
       payload-size = omega (arith, ap length payload, length-take size (drop (index + 3) l))
 
@@ -47,7 +50,8 @@ module _ (count : ℕ) (one : Translator) (l table₀ out₀ : List ℕ) (at₀ 
 
       -- one field more
       pub list-turn : ((table : List ℕ) (n : ℕ) → Bounded (length p + 3) table (one s p table n)) → {out₁ : List ℕ} {at₁ n₁ : ℕ} {table₁ slots₁ words₁ : List ℕ} →
-          Translates (one s p table n) out at n slots words top out₁ at₁ n₁ table₁ slots₁ words₁ → ListGoing (index + 3 + size) out₁ at₁ n₁ table₁ slots₁ words₁
+          Translates (one s p table n) out at n slots words top out₁ at₁ n₁ table₁ slots₁ words₁ →
+          ListGoing count one l table₀ out₀ at₀ n₀ slots₀ words₀ top (index + 3 + size) out₁ at₁ n₁ table₁ slots₁ words₁
       unfolding writeAll
       list-turn bound {n₁ = n₁} {table₁} t =
           let within : index + 3 + size ≤ length l = field-within l index opened found s size e in

@@ -35,7 +35,7 @@ module _ (widths table₀ : List ℕ) (at : ℕ) where
   start-done h going = rw (drop-of-length-le widths h) at going
 
 -- as many words as widths
-start-count : (v : ℕ) (widths : List ℕ) → length (startFrom v widths) ≡ length widths
+pub start-count : (v : ℕ) (widths : List ℕ) → length (startFrom v widths) ≡ length widths
 unfolding startFrom
 start-count v [] = refl
 start-count v (w ∷ widths) = ap suc (start-count (v + 1) widths)

@@ -22,4 +22,5 @@ pub mod Existing
 pub mod FirstAssignments
 pub mod Delayed
 pub mod TreeAnswers
+pub mod AcceptedFile
 pub mod OneResult

@@ -6,6 +6,7 @@ use mathlib.Core.List.{List, [], _∷_, map}
 use Prim.Native.Nat.{ℕ, _+_, _≤_, _<_}
 use native.Mathlib.Omega.{arith}
 use lib.ListN.{length, getD, take, drop, length-append, length-drop}
+use lib.Seq.{take-append-seam}
 use Rattle.tagged.specs.Limits.{longestModule, mostVariables}
 use Rattle.tagged.specs.Bytes.{AllBytes}
 use Rattle.tagged.specs.Fields.{allBytesOf, fieldsAt, passedBytes, unplaced, placedBy}
@@ -95,6 +96,12 @@ module _ (file : List ℕ) (bytes : AllBytes file) (accepted : fileAnswer longes
     list-is =
         let bytes-taken : taken ≡ passedBytes (declarationsStep 0 0 (drop 3 file)) = count ∙ ap (λ (l : List ℕ). passedBytes (declarationsStep 0 0 l)) part in
         rest ∙ ap₂ (λ (k : ℕ) (l : List ℕ). drop k l) bytes-taken part ∙ read .processes
+
+    pub declared-is : (front : List ℕ) → front ≡ take taken payload → front ≡ allBytesOf declarationBytes (moduleIn file .declarations)
+    unfolding modulePayload
+    declared-is front head =
+        head ∙ ap₂ take taken-is (part ∙ sym (read .written))
+        ∙ take-append-seam (allBytesOf declarationBytes (moduleIn file .declarations)) (allBytesOf processBytes (moduleIn file .processes))
 
     whole-length : length (allBytesOf declarationBytes (moduleIn file .declarations)) + length (allBytesOf processBytes (moduleIn file .processes)) ≡ length (drop 3 file)
     unfolding modulePayload

@@ -16,23 +16,19 @@ use Rattle.tagged.specs.Declarations.{widthOf, declarationsIn, declarationsStep
 use Rattle.tagged.specs.Rows.{rowBytes, rowNumbers, rowAnswer, allFit}
 use Rattle.tagged.specs.Runs.{rowLeft}
 use Rattle.tagged.specs.declared.declarations.VariableTable.{VariableTable}
-use Rattle.tagged.specs.declared.answers.Rule.the-variants as Rule
-use Rattle.tagged.specs.declared.answers.Found.the-variants as Found
 use Rattle.tagged.specs.declared.answers.Answer.the-variants as Answer
 use Rattle.tagged.proofs.WriteLaws.{sets-all}
 use Rattle.tagged.proofs.RowLaws.{bytes-length, fits-length, numbers-front, RowAccepted, row-accepted}
-use Rattle.tagged.proofs.RefusalLaws.{NoneBroken, more, accepted-none}
 use Rattle.tagged.proofs.TableLaws.{widths-all}
 use Rattle.verilog.specs.Tree.{Module}
 use Rattle.verilog.specs.Form.{processBytes}
 use Rattle.verilog.specs.Fits.{FitsModule, processesDepth}
 use Rattle.verilog.specs.Reading.{moduleIn}
-use Rattle.verilog.specs.Rules.{moduleBroken}
-use Rattle.verilog.specs.Answer.{moduleRules, treeAnswer, moduleAnswer}
+use Rattle.verilog.specs.Answer.{treeAnswer, moduleAnswer}
 use Rattle.verilog.specs.Cycle.{State, delaysAny, settled, moduleCycle}
 use Rattle.verilog.specs.Run.{fileWidths, cycleOf}
 use Rattle.verilog.proofs.Typed.{TypedModule}
-use Rattle.verilog.proofs.FitLaws.{Fits, fits-of-test, test-of-fits}
+use Rattle.verilog.proofs.FitLaws.{fits-of-test, test-of-fits}
 use Rattle.verilog.proofs.NeverStops.{StateFits, typed-all-run, settled-fits}
 use Rattle.verilog.proofs.AcceptedTyped.{accepted-typed}
 use Rattle.verilog.proofs.AcceptedModule.{accepted-tree}
@@ -42,17 +38,9 @@ use Rattle.verilog_check.proofs.RulesByTables.{processFields}
 use Rattle.verilog_check.proofs.Delayed.{delayed-by-first}
 use Rattle.verilog_check.proofs.TreeAnswers.{tree-fits, processes-deep, list-is, list-long, firsts-told}
 use Rattle.verilog_run.specs.Execution.{stateOf, runProcesses, delayedBy, settledState}
-use Rattle.verilog_run.proofs.AcceptedFile.{length-accepted, form-passed, few-variables, payload-declared, variables-told}
+use Rattle.verilog_check.proofs.AcceptedFile.{one-kind, length-accepted, form-passed, few-variables, payload-declared, variables-told}
 use Rattle.verilog_run.proofs.ExecutionLaws.{processes-run}
 use Rattle.verilog_run.proofs.SettledLaws.{settled-agree}
-
--- rule 9 has no place in an accepted tree
-one-kind : (m : Module) → treeAnswer 3 m ≡ Answer.Accepted → moduleBroken 3 m Rule.BothKinds ≡ Found.Nowhere
-unfolding treeAnswer
-one-kind m e = go (accepted-none (moduleBroken 3 m) moduleRules e)
-  where
-    go : NoneBroken (moduleBroken 3 m) moduleRules → moduleBroken 3 m Rule.BothKinds ≡ Found.Nowhere
-    go (more value (more name (more count (more reference (more widths (more bits (more kinds others))))))) = kinds
 
 -- the cycle of a tree that is accepted, from a row that fits, by the bytes of its processes and a table of first assignments
 module _ (m : Module) (accepted : treeAnswer 3 m ≡ Answer.Accepted) (few : length (m .declarations) ≤ mostVariables) (fits : FitsModule m)

@@ -5,6 +5,5 @@ pub mod WrittenFields
 pub mod PayloadLaws
 pub mod ExecutionLaws
 pub mod SettledLaws
-pub mod AcceptedFile
 pub mod CycleWritten
 pub mod OneResult

@@ -4,8 +4,8 @@ use native.Mathlib.Omega.{arith}
 use lib.Seq.{length-take-le}
 use Rattle.tagged.specs.Declarations.{declarationsIn}
 use Rattle.tagged.specs.Rows.{rowAnswer}
-use Rattle.tagged.proofs.TableLaws.{widths-long, count-fits, front-few, widths-all}
-use Rattle.verilog_run.proofs.AcceptedFile.{payload-short, variables-told, widths-told}
+use Rattle.tagged.proofs.TableLaws.{widths-all}
+use Rattle.verilog_check.proofs.AcceptedFile.{payload-short, variables-told, widths-told, widths-room, widths-few}
 use borrow.Author.Needs.{needs}
 use Rattle.verilog_run.proofs.rows_answer.Statement.{statement}
 use Rattle.verilog_run.proofs.rows_answer.Tie as tie
@@ -26,7 +26,7 @@ array-share-prefix-widths c =
     let pre = c .before .before .before .before .before .pre in
     let from = c .before .before .from in
     let variable-table = c .before .variable-table in
-    omega (arith, count-fits (declarationsIn (from .result .now)) (variable-table .result) (variable-table .ensures) (variables-told (args .file .now) pre (from .result .now) (from .ensures)), widths-long (declarationsIn (from .result .now)) (variable-table .result) (variable-table .ensures))
+    widths-room (args .file .now) pre _ (from .ensures) (variable-table .result) (variable-table .ensures)
 
 slice-aggregate-row-answer : tie.Need-slice-aggregate-row-answer
 slice-aggregate-row-answer c =
@@ -34,7 +34,7 @@ slice-aggregate-row-answer c =
     let args = c .before .before .before .before .before .before .args in
     let pre = c .before .before .before .before .before .before .pre in
     let from = c .before .before .before .from in
-    sym (length-take-le (variable-table .result .count) (variable-table .result .widths) (omega (arith, count-fits (declarationsIn (from .result .now)) (variable-table .result) (variable-table .ensures) (variables-told (args .file .now) pre (from .result .now) (from .ensures)), widths-long (declarationsIn (from .result .now)) (variable-table .result) (variable-table .ensures))))
+    sym (length-take-le (variable-table .result .count) (variable-table .result .widths) (widths-room (args .file .now) pre _ (from .ensures) (variable-table .result) (variable-table .ensures)))
 
 row-answer-requires : tie.Need-row-answer-requires
 row-answer-requires c κs =
@@ -42,7 +42,7 @@ row-answer-requires c κs =
     let pre = c .before .before .before .before .before .before .pre in
     let from = c .before .before .before .from in
     let variable-table = c .before .before .variable-table in
-    front-few (declarationsIn (from .result .now)) (variable-table .result) (variable-table .ensures) (variables-told (args .file .now) pre (from .result .now) (from .ensures))
+    widths-few (args .file .now) pre _ (from .ensures) (variable-table .result) (variable-table .ensures)
 
 returns : tie.Need-returns
 returns c =

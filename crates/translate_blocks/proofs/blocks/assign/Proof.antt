@@ -1,4 +1,4 @@
--- `translate::blocks::assign` meets its contract: the slot and the operand are what the calls before the store give. Assumes nothing.
+-- `translate_blocks::blocks::assign` meets its contract: the slot and the operand are what the calls before the store give. Assumes nothing.
 use mathlib.Core.Path.{ap}
 use lib.ListN.{length, length-drop}
 use Rattle.translate_blocks.proofs.WritingSteps.{assign-done}

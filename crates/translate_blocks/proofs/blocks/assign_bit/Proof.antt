@@ -1,4 +1,4 @@
--- `translate::blocks::assign_bit` meets its contract: the slot and the operand are what the calls before the store give. Assumes nothing.
+-- `translate_blocks::blocks::assign_bit` meets its contract: the slot and the operand are what the calls before the store give. Assumes nothing.
 use mathlib.Core.Path.{ap}
 use mathlib.Core.List.{map}
 use lib.ListN.{length, length-drop}

@@ -1,4 +1,4 @@
--- `translate::blocks::copy_words` meets its contract: the words before the index are copied. Assumes nothing.
+-- `translate_blocks::blocks::copy_words` meets its contract: the words before the index are copied. Assumes nothing.
 use mathlib.Core.Path.{_≡_, refl, sym, ap, _∙_}
 use mathlib.Core.List.{List, [], _∷_, _++_}
 use Prim.Native.Nat.{ℕ, _≤_, _<_, _-_}

@@ -1,4 +1,4 @@
--- `translate::blocks::front_words` meets its contract: where the table is shorter, all of it is its front. Assumes nothing.
+-- `translate_blocks::blocks::front_words` meets its contract: where the table is shorter, all of it is its front. Assumes nothing.
 use mathlib.Core.Path.{sym, ap}
 use Prim.Native.Nat.{ℕ}
 use native.Mathlib.Nat.{sub-zero}

@@ -1,4 +1,4 @@
--- `translate::blocks::item_operand` meets its contract: a field that was opened lies within the payload. Assumes nothing.
+-- `translate_blocks::blocks::item_operand` meets its contract: a field that was opened lies within the payload. Assumes nothing.
 use mathlib.Core.Path.{sym, ap, ap₂, _∙_}
 use Prim.Native.Nat.{ℕ}
 use native.Mathlib.Omega.{arith}

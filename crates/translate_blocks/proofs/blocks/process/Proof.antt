@@ -1,4 +1,4 @@
--- `translate::blocks::process` meets its contract: each arm is the sort that the match found. Assumes nothing.
+-- `translate_blocks::blocks::process` meets its contract: each arm is the sort that the match found. Assumes nothing.
 use Rattle.translate_blocks.proofs.WritingSteps.{translates-none, translates-as, process-of, process-other}
 use borrow.Author.Needs.{needs}
 use Rattle.translate_blocks.proofs.blocks.process.Statement.{statement}

@@ -1,4 +1,4 @@
--- `translate::blocks::processes` meets its contract: what the rest of the list gives behind what is done is what the whole list gives. Assumes nothing.
+-- `translate_blocks::blocks::processes` meets its contract: what the rest of the list gives behind what is done is what the whole list gives. Assumes nothing.
 use native.Mathlib.Omega.{arith}
 use Prim.Native.Nat.{_-_}
 use lib.ListN.{length}
@@ -23,9 +23,8 @@ abbrev μ-loop : tie.MeasureT-loop
 -- src/statements.rt:661:5
 loop-holds : tie.Need-loop-holds Inv-loop μ-loop
 loop-holds c =
-    let args = c .before .before .before .before .before .args in
     let pre = c .before .before .before .before .before .pre in
-    list-start _ (writeProcess (args .count)) _ _ _ _ _ _ _ _ pre
+    list-start pre
 
 -- src/statements.rt:664:17
 enum-told : tie.Need-enum-told Inv-loop μ-loop
@@ -47,10 +46,9 @@ same-length-2 c =
 returns : tie.Need-returns Inv-loop μ-loop
 unfolding writeProcesses
 returns c =
-    let args = c .before .before .before .before .before .before .before .before .before .before .args in
     let loop = c .before .before .before .before .loop in
     let open-field = c .before .before .open-field in
-    list-done _ (writeProcess (args .count)) _ _ _ _ _ _ _ _ (loop .inv) _ (open-field .ensures) _ (c .enum-told .given .1)
+    list-done (loop .inv) (open-field .ensures) (c .enum-told .given .1)
 
 -- src/statements.rt:669:21
 payload-at-requires : tie.Need-payload-at-requires Inv-loop μ-loop
@@ -64,12 +62,11 @@ payload-at-requires c κs =
 -- src/statements.rt:667:17
 process-requires : tie.Need-process-requires Inv-loop μ-loop
 process-requires c κs =
-    let args = c .before .before .before .before .before .before .before .before .before .before .before .before .before .before .before .before .args in
     let loop = c .before .before .before .before .before .before .before .before .before .before .loop in
     let open-field = c .before .before .before .before .before .before .before .before .open-field in
     let sort = c .before .before .before .before .before .before .sort in
     let payload-at = c .before .before .before .before .payload-at in
-    room-less (omega arith) (list-room _ (writeProcess (args .count)) _ _ _ _ _ _ _ _ (loop .inv) _ (open-field .ensures) _ _ (sort .given .1) _ (payload-at .ensures))
+    room-less (omega arith) (list-room (loop .inv) (open-field .ensures) (sort .given .1) (payload-at .ensures))
 
 -- src/statements.rt:679:25
 add-index : tie.Need-add-index Inv-loop μ-loop
@@ -100,13 +97,12 @@ loop-less c =
 -- src/statements.rt:661:5
 loop-again : tie.Need-loop-again Inv-loop μ-loop
 loop-again c =
-    let args = c .before .before .before .before .before .before .before .before .before .before .before .before .before .before .before .before .before .before .before .before .before .before .before .before .before .args in
     let loop = c .before .before .before .before .before .before .before .before .before .before .before .before .before .before .before .before .before .before .before .loop in
     let open-field = c .before .before .before .before .before .before .before .before .before .before .before .before .before .before .before .before .before .open-field in
     let sort = c .before .before .before .before .before .before .before .before .before .before .before .before .before .before .before .sort in
     let payload-at = c .before .before .before .before .before .before .before .before .before .before .before .before .before .payload-at in
     let process = c .before .before .before .before .before .before .before .before .process in
-    list-turn _ (writeProcess (args .count)) _ _ _ _ _ _ _ _ (loop .inv) _ (open-field .ensures) _ _ (sort .given .1) _ (payload-at .ensures) (λ table n. more-bytes (omega arith) (process-bounded _ _ _ table n)) (process .ensures)
+    list-turn (loop .inv) (open-field .ensures) (sort .given .1) (payload-at .ensures) (λ table n. more-bytes (omega arith) (process-bounded _ _ _ table n)) (process .ensures)
 
 pub processes-spec : {M : Type 1} → statement M
 processes-spec =

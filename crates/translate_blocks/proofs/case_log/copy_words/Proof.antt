@@ -1,4 +1,4 @@
--- `translate::case_log::copy_words` meets its contract: at each turn the entries passed are copied. Assumes nothing.
+-- `translate_blocks::case_log::copy_words` meets its contract: at each turn the entries passed are copied. Assumes nothing.
 use mathlib.Core.Path.{_≡_, refl, ap, _∙_}
 use Prim.Native.Nat.{_-_, _≤_}
 use native.Mathlib.Omega.{arith}

@@ -1,4 +1,4 @@
--- `translate::case_log::log_changes` meets its contract: at each turn the entries passed are logged and set back. Assumes nothing.
+-- `translate_blocks::case_log::log_changes` meets its contract: at each turn the entries passed are logged and set back. Assumes nothing.
 use Prim.Native.Nat.{_-_}
 use native.Mathlib.Omega.{arith}
 use lib.ListN.{length}

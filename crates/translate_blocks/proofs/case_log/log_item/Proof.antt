@@ -1,4 +1,4 @@
--- `translate::case_log::log_item` meets its contract: the changes and the mark above them are the item. Assumes nothing.
+-- `translate_blocks::case_log::log_item` meets its contract: the changes and the mark above them are the item. Assumes nothing.
 use mathlib.Core.Path.{refl}
 use native.Mathlib.Omega.{arith}
 use Rattle.translate_blocks.proofs.ChangeCounts.{changes-most}

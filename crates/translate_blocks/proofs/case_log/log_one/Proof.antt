@@ -1,4 +1,4 @@
--- `translate::case_log::log_one` meets its contract: the test is the definition's. Assumes nothing.
+-- `translate_blocks::case_log::log_one` meets its contract: the test is the definition's. Assumes nothing.
 use Rattle.tagged.proofs.WriteLaws.{wrote-none}
 use Rattle.netlist.proofs.PutLaws.{wrote-as}
 use Rattle.translate_blocks.proofs.LogSteps.{logged-same, logged-other}

@@ -1,4 +1,4 @@
--- `translate::case_log::merge_mark` meets its contract: the changes on a copy of the entry table are the item's table. Assumes nothing.
+-- `translate_blocks::case_log::merge_mark` meets its contract: the changes on a copy of the entry table are the item's table. Assumes nothing.
 use mathlib.Core.Path.{sym, ap}
 use Prim.Native.Nat.{ℕ, _%_, _^_}
 use native.Mathlib.Omega.{arith}

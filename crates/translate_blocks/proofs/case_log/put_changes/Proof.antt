@@ -1,4 +1,4 @@
--- `translate::case_log::put_changes` meets its contract: at each turn the words passed are put. Assumes nothing.
+-- `translate_blocks::case_log::put_changes` meets its contract: at each turn the words passed are put. Assumes nothing.
 use mathlib.Core.Path.{_≡_, refl, ap₂, _∙_}
 use Prim.Native.Nat.{ℕ, _-_}
 use native.Mathlib.Omega.{arith}

@@ -1,4 +1,4 @@
--- `translate::case_log::unwind` meets its contract: at each turn the items passed, from the end, are merged. Assumes nothing.
+-- `translate_blocks::case_log::unwind` meets its contract: at each turn the items passed, from the end, are merged. Assumes nothing.
 use mathlib.Core.Path.{_≡_, sym, _∙_}
 use mathlib.Core.List.{List}
 use Prim.Native.Nat.{_+_, _*_, _-_, _≤_}

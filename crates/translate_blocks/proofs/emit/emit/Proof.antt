@@ -1,4 +1,4 @@
--- `translate::emit::emit` meets its contract: one cell is written. Assumes nothing.
+-- `translate_blocks::emit::emit` meets its contract: one cell is written. Assumes nothing.
 use Rattle.translate_blocks.proofs.EmitLaws.{emits-one}
 use borrow.Author.Needs.{needs}
 use Rattle.translate_blocks.proofs.emit.emit.Statement.{statement}

@@ -1,4 +1,4 @@
--- `translate::ends::drive_of` meets its contract: it is the drive of the operand at the variable's slot. Assumes nothing.
+-- `translate_blocks::ends::drive_of` meets its contract: it is the drive of the operand at the variable's slot. Assumes nothing.
 use mathlib.Core.Path.{ap, _∙_}
 use Prim.Native.Nat.{ℕ}
 use lib.ListN.{getD}

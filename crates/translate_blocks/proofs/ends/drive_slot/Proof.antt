@@ -1,4 +1,4 @@
--- `translate::ends::drive_slot` meets its contract: the test is the definition's. Assumes nothing.
+-- `translate_blocks::ends::drive_slot` meets its contract: the test is the definition's. Assumes nothing.
 use borrow.Author.Tests.{eq-eqb, ne-eqb}
 use borrow.Author.Needs.{needs}
 use Rattle.translate_blocks.proofs.ends.drive_slot.Statement.{statement}

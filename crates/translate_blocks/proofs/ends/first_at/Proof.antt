@@ -1,4 +1,4 @@
--- `translate::ends::first_at` meets its contract: past the end there is no first assignment. Assumes nothing.
+-- `translate_blocks::ends::first_at` meets its contract: past the end there is no first assignment. Assumes nothing.
 use mathlib.Core.Path.{sym}
 use lib.ListN.{List·getD-eq-default}
 use borrow.Author.Needs.{needs}

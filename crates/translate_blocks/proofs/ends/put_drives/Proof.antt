@@ -1,4 +1,4 @@
--- `translate::ends::put_drives` meets its contract: at each turn the drives of the variables passed are written. Assumes nothing.
+-- `translate_blocks::ends::put_drives` meets its contract: at each turn the drives of the variables passed are written. Assumes nothing.
 use Prim.Native.Nat.{_-_}
 use native.Mathlib.Omega.{arith}
 use lib.ListN.{length}

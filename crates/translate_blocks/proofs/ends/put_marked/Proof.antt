@@ -1,4 +1,4 @@
--- `translate::ends::put_marked` meets its contract: the test is the definition's. Assumes nothing.
+-- `translate_blocks::ends::put_marked` meets its contract: the test is the definition's. Assumes nothing.
 use mathlib.Core.Path.{sym, ap}
 use Rattle.netlist.specs.Form.{driveBytes}
 use Rattle.netlist.proofs.PutLaws.{wrote-as}

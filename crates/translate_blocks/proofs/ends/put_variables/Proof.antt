@@ -1,4 +1,4 @@
--- `translate::ends::put_variables` meets its contract: at each turn the words of the variables passed are put. Assumes nothing.
+-- `translate_blocks::ends::put_variables` meets its contract: at each turn the words of the variables passed are put. Assumes nothing.
 use mathlib.Core.Path.{_≡_, refl, _∙_}
 use Prim.Native.Nat.{_-_}
 use lib.ListN.{length}

@@ -1,4 +1,4 @@
--- `translate::ends::start_table` meets its contract: the two halves take all the room. Assumes nothing.
+-- `translate_blocks::ends::start_table` meets its contract: the two halves take all the room. Assumes nothing.
 use Rattle.translate_blocks.proofs.StartTurns.{start-both}
 use borrow.Author.Needs.{needs}
 use Rattle.translate_blocks.proofs.ends.start_table.Statement.{statement}

@@ -1,4 +1,4 @@
--- `translate::expression::expression` and `expression_by` meet their contracts: by what is read at the front of a part, the depth left falling; an expression's
+-- `translate_blocks::expression::expression` and `expression_by` meet their contracts: by what is read at the front of a part, the depth left falling; an expression's
 -- cells are few against its bytes, so there is room for what follows. Assumes nothing.
 use mathlib.Core.Path.{sym, ap, _∙_}
 use borrow.Author.Needs.{needs}

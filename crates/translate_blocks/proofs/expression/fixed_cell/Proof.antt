@@ -1,4 +1,4 @@
--- `translate::expression::fixed_cell` meets its contract: the vector and the bit's number are read from the payload. Assumes nothing.
+-- `translate_blocks::expression::fixed_cell` meets its contract: the vector and the bit's number are read from the payload. Assumes nothing.
 use borrow.Author.Needs.{needs}
 use Rattle.translate_blocks.proofs.expression.fixed_cell.Statement.{statement}
 use Rattle.translate_blocks.proofs.expression.fixed_cell.Tie as tie

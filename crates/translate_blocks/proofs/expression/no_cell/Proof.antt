@@ -1,4 +1,4 @@
--- `translate::expression::no_cell` meets its contract: nothing is written. Assumes nothing.
+-- `translate_blocks::expression::no_cell` meets its contract: nothing is written. Assumes nothing.
 use Rattle.translate_blocks.proofs.ExpressionEmits.{operand-emitted}
 use Rattle.translate_blocks.proofs.expression.no_cell.Statement.{statement}
 use Rattle.translate_blocks.proofs.expression.no_cell.Tie as tie

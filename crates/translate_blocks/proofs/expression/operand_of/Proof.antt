@@ -1,4 +1,4 @@
--- `translate::expression::operand_of` meets its contract: the word at a variable's index, unpacked. Assumes nothing.
+-- `translate_blocks::expression::operand_of` meets its contract: the word at a variable's index, unpacked. Assumes nothing.
 use mathlib.Core.Path.{ap, _∙_}
 use Rattle.translate_blocks.specs.Words.{unpacked}
 use Rattle.translate_blocks.proofs.ExpressionEmits.{operand-unpacked}

@@ -1,4 +1,4 @@
--- `translate::expression::two_cell` meets its contract: the width is by the operator and its first operand. Assumes nothing.
+-- `translate_blocks::expression::two_cell` meets its contract: the width is by the operator and its first operand. Assumes nothing.
 use borrow.Author.Needs.{needs}
 use Rattle.translate_blocks.proofs.expression.two_cell.Statement.{statement}
 use Rattle.translate_blocks.proofs.expression.two_cell.Tie as tie

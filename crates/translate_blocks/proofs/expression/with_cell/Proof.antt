@@ -1,4 +1,4 @@
--- `translate::expression::with_cell` meets its contract: the cell is written, and its number is how many there were. Assumes nothing.
+-- `translate_blocks::expression::with_cell` meets its contract: the cell is written, and its number is how many there were. Assumes nothing.
 use Rattle.translate_blocks.proofs.ExpressionEmits.{cell-emitted}
 use borrow.Author.Needs.{needs}
 use Rattle.translate_blocks.proofs.expression.with_cell.Statement.{statement}

@@ -1,4 +1,4 @@
--- `translate::merge_words::merge` meets its contract: at each turn the entries passed are merged. Assumes nothing.
+-- `translate_blocks::merge_words::merge` meets its contract: at each turn the entries passed are merged. Assumes nothing.
 use Prim.Native.Nat.{_-_}
 use native.Mathlib.Omega.{arith}
 use lib.ListN.{length}

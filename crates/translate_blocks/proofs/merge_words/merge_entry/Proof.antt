@@ -1,4 +1,4 @@
--- `translate::merge_words::merge_entry` meets its contract: the test is the definition's. Assumes nothing.
+-- `translate_blocks::merge_words::merge_entry` meets its contract: the test is the definition's. Assumes nothing.
 use mathlib.Core.Path.{sym, ap, _∙_}
 use mathlib.Core.List.{[], _∷_}
 use Prim.Native.Nat.{ℕ}

@@ -1,4 +1,4 @@
--- `translate::merge_words::mux_entry` meets its contract: the callees give the mux's parts. Assumes nothing.
+-- `translate_blocks::merge_words::mux_entry` meets its contract: the callees give the mux's parts. Assumes nothing.
 use borrow.Author.Needs.{needs}
 use Rattle.translate_blocks.proofs.merge_words.mux_entry.Statement.{statement}
 use Rattle.translate_blocks.proofs.merge_words.mux_entry.Tie as tie

@@ -1,4 +1,4 @@
--- `translate::packing::pack` meets its contract: each arm gives the word of the operand that led to it. Assumes nothing.
+-- `translate_blocks::packing::pack` meets its contract: each arm gives the word of the operand that led to it. Assumes nothing.
 use mathlib.Core.Path.{sym, ap, _∙_}
 use borrow.Author.Needs.{needs}
 use Rattle.translate_blocks.specs.Words.{packed}

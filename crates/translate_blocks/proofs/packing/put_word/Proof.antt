@@ -1,4 +1,4 @@
--- `translate::packing::put_word` meets its contract: without room the list stays as it was. Assumes nothing.
+-- `translate_blocks::packing::put_word` meets its contract: without room the list stays as it was. Assumes nothing.
 use mathlib.Core.Path.{sym}
 use lib.Seq.{set-out}
 use borrow.Author.Needs.{needs}

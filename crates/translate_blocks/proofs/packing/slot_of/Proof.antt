@@ -1,4 +1,4 @@
--- `translate::packing::slot_of` meets its contract: each arm gives the index for the kind that led to it. Assumes nothing.
+-- `translate_blocks::packing::slot_of` meets its contract: each arm gives the index for the kind that led to it. Assumes nothing.
 use mathlib.Core.Path.{sym, ap}
 use borrow.Author.Needs.{needs}
 use Rattle.tagged.specs.declared.sorts.Kind.{Kind}

@@ -1,4 +1,4 @@
--- `translate::packing::unpack` meets its contract: each arm tests the kind as the definition does. Assumes nothing.
+-- `translate_blocks::packing::unpack` meets its contract: each arm tests the kind as the definition does. Assumes nothing.
 use mathlib.Core.Path.{sym}
 use borrow.Author.Needs.{needs}
 use Rattle.translate_blocks.proofs.PackingLaws.{unpacked-constant, unpacked-variable, unpacked-cell}

@@ -1,4 +1,4 @@
--- `translate::packing::word_at` meets its contract: past the end the list gives 0. Assumes nothing.
+-- `translate_blocks::packing::word_at` meets its contract: past the end the list gives 0. Assumes nothing.
 use mathlib.Core.Path.{sym}
 use lib.ListN.{List·getD-eq-default}
 use borrow.Author.Needs.{needs}

@@ -6,8 +6,8 @@ use lib.Seq.{length-take-le}
 use Rattle.tagged.specs.Declarations.{declarationsIn}
 use Rattle.tagged.proofs.AllBytesLaws.{read-bytes}
 use Rattle.tagged.proofs.RowLaws.{numbers-length}
-use Rattle.tagged.proofs.TableLaws.{count-fits, widths-long, zeros-at}
-use Rattle.verilog_run.proofs.AcceptedFile.{payload-short, variables-told}
+use Rattle.tagged.proofs.TableLaws.{count-fits, zeros-at}
+use Rattle.verilog_check.proofs.AcceptedFile.{payload-short, variables-told, widths-room}
 use Rattle.verilog_run.proofs.CycleWritten.{processes-long, cycle-written}
 use borrow.Author.Needs.{needs}
 use Rattle.verilog_run.proofs.cycle.write_cycle.Statement.{statement}
@@ -42,7 +42,7 @@ array-share-prefix-widths c =
     let pre = c .before .before .before .before .before .before .before .before .before .before .before .before .before .before .pre in
     let from = c .before .before .before .before .before .before .before .before .before .before .from in
     let variable-table = c .before .before .before .before .before .before .before .variable-table in
-    omega (arith, count-fits (declarationsIn (from .result .now)) (variable-table .result) (variable-table .ensures) (variables-told (args .file .now) (pre .0) (from .result .now) (from .ensures)), widths-long (declarationsIn (from .result .now)) (variable-table .result) (variable-table .ensures))
+    widths-room (args .file .now) (pre .0) _ (from .ensures) (variable-table .result) (variable-table .ensures)
 
 slice-aggregate-run-processes : tie.Need-slice-aggregate-run-processes
 slice-aggregate-run-processes c =
@@ -50,7 +50,7 @@ slice-aggregate-run-processes c =
     let pre = c .before .before .before .before .before .before .before .before .before .before .before .before .before .before .before .pre in
     let from = c .before .before .before .before .before .before .before .before .before .before .before .from in
     let variable-table = c .before .before .before .before .before .before .before .before .variable-table in
-    sym (length-take-le (variable-table .result .count) (variable-table .result .widths) (omega (arith, count-fits (declarationsIn (from .result .now)) (variable-table .result) (variable-table .ensures) (variables-told (args .file .now) (pre .0) (from .result .now) (from .ensures)), widths-long (declarationsIn (from .result .now)) (variable-table .result) (variable-table .ensures))))
+    sym (length-take-le (variable-table .result .count) (variable-table .result .widths) (widths-room (args .file .now) (pre .0) _ (from .ensures) (variable-table .result) (variable-table .ensures)))
 
 array-borrow-prefix-current : tie.Need-array-borrow-prefix-current
 array-borrow-prefix-current c =
