@@ -1,6 +1,6 @@
 -- What is written is bytes: lists joined, a number in four bytes, a field, and fields one after the other; and how many these are. By induction on the list.
-use mathlib.Core.Path.{refl}
-use mathlib.Core.List.{List, [], _∷_, _++_, List·Memᴰ, List·Memᴰ·head, List·Memᴰ·tail}
+use mathlib.Core.Path.{_≡_, refl, sym, ap, _∙_}
+use mathlib.Core.List.{List, [], _∷_, _++_, append-assoc, List·Memᴰ, List·Memᴰ·head, List·Memᴰ·tail}
 use Prim.Native.Nat.{ℕ, zero, suc, _*_, _/_, _%_, _≤_, _<_}
 use native.Mathlib.Nat.{suc-mul}
 use native.Mathlib.Omega.{arith}
@@ -52,6 +52,13 @@ module _ {A : Type 0} (bytes : A → List ℕ) where
       let here : length (bytes a) ≤ most = h a (List·Memᴰ·head refl) in
       let later : length (allBytesOf bytes l) ≤ length l * most = all-length most l (λ b m. h b (List·Memᴰ·tail m)) in
       rw (length-append (bytes a) (allBytesOf bytes l), suc-mul (length l) most) (omega arith)
+
+-- the bytes of two lists, one after the other
+pub bytes-joined : {A : Type 0} (bytes : A → List ℕ) (l m : List A) → allBytesOf bytes (l ++ m) ≡ allBytesOf bytes l ++ allBytesOf bytes m
+unfolding allBytesOf
+bytes-joined bytes [] m = refl
+bytes-joined bytes (a ∷ l) m =
+    ap (λ (rest : List ℕ). bytes a ++ rest) (bytes-joined bytes l m) ∙ sym (append-assoc (bytes a) (allBytesOf bytes l) (allBytesOf bytes m))
 
 -- what is known of a slice's bytes
 pub read-bytes : (l : List ℕ) → ((i : ℕ) → Fits w8 (getD l i 0)) → AllBytes l

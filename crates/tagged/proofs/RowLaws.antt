@@ -1,6 +1,6 @@
 -- Rows: what is written is read back and what is read is written back; a row that fits has a number below its bound for each width;
 -- and one turn of each loop over a row. By induction on the row. Assumes nothing.
-use mathlib.Core.Path.{_≡_, refl, sym, ap, ap₂, _∙_}
+use mathlib.Core.Path.{_≡_, refl, ap, ap₂}
 use mathlib.Core.Bool.{Bool, true, false, cond, _&&_, false≢true, and-false, and-eq-true-iff}
 use mathlib.Core.List.{List, [], _∷_, _++_, append-assoc, append-nil}
 use Prim.Native.Nat.{ℕ, zero, suc, _+_, _-_, _*_, _^_, _≤_, _<_}
@@ -19,6 +19,7 @@ use Rattle.tagged.specs.declared.answers.Rule.the-variants as Rule
 use Rattle.tagged.specs.declared.answers.Answer.the-variants as Answer
 use Rattle.tagged.proofs.ByteLaws.{bytes-four, four-front, bytes-drop}
 use Rattle.tagged.proofs.WriteLaws.{wrote-then}
+use Rattle.tagged.proofs.AllBytesLaws.{bytes-joined}
 
 -- lengths
 pub numbers-length : (n : ℕ) (row : List ℕ) → length (rowNumbers n row) ≡ n
@@ -97,15 +98,10 @@ read-done row values n at e h going =
     rw (none, take-all at values all, append-nil) at going
 
 -- writing: the values written so far, and one more
-pub bytes-append : (a b : List ℕ) → rowBytes (a ++ b) ≡ rowBytes a ++ rowBytes b
-unfolding allBytesOf
-bytes-append [] b = refl
-bytes-append (v ∷ a) b = ap (λ l. fourBytes v ++ l) (bytes-append a b) ∙ sym (append-assoc (fourBytes v) (rowBytes a) (rowBytes b))
-
 pub write-turn : {o o₁ o₂ : List ℕ} {i i₁ i₂ : ℕ} (values : List ℕ) (at : ℕ) → at < length values →
     Wrote o i (rowBytes (take at values)) o₁ i₁ → Wrote o₁ i₁ (fourBytes (getD values at 0)) o₂ i₂ → Wrote o i (rowBytes (take (at + 1) values)) o₂ i₂
 unfolding allBytesOf
-write-turn values at h w v = rw (add-one, take-suc values at 0 h, bytes-append, append-nil) (wrote-then w v)
+write-turn values at h w v = rw (add-one, take-suc values at 0 h, bytes-joined fourBytes, append-nil) (wrote-then w v)
 
 pub write-done : {o o₁ : List ℕ} {i i₁ : ℕ} (values : List ℕ) (at : ℕ) → length values ≤ at →
     Wrote o i (rowBytes (take at values)) o₁ i₁ → o₁ ≡ sets o i (rowBytes values)

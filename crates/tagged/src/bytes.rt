@@ -2,7 +2,7 @@
 ghost use mathlib.Core.Path.{_≡_};
 ghost use mathlib.Core.List.{[], _∷_};
 ghost use Prim.Native.Nat.{_+_, _^_, _≤_};
-ghost use lib.ListN.{getD, drop};
+ghost use lib.ListN.{getD, take, drop};
 ghost use Rattle.tagged.specs.Bytes.{twoBytes, numberOfTwo, fourBytes, numberOfFour, fourOf, Wrote};
 
 // The byte at an index, and 0 past the end.
@@ -20,6 +20,17 @@ pub fn from(part: &[u8], start: usize) -> &[u8]
         &part[start..]
     } else {
         &part[0..0]
+    }
+}
+
+// The front of a part, so far as it reaches.
+pub fn front(part: &[u8], end: usize) -> &[u8]
+    ensures { λ r. ⌜ now r ≡ take end (now (part .entry)) ⌝ }
+{
+    if end <= part.len() {
+        &part[0..end]
+    } else {
+        part
     }
 }
 

@@ -9,7 +9,7 @@ use lib.ListN.{length, getD, set, length-append, length-map, List·getD-append}
 use lib.Seq.{getD-at}
 use borrow.Author.Tests.{eq-eqb, leb-false, lt-leb}
 use Rattle.words.specs.Widths.{isWidth, fitsWidth}
-use Rattle.tagged.specs.Declarations.{Declaration, widthOf, variableWidth, registerAt}
+use Rattle.tagged.specs.Declarations.{Declaration, widthOf, variableWidth}
 use Rattle.netlist.specs.Lists.{operandWidth, cellWidth}
 use Rattle.netlist.specs.Rules.{operandValueBroken, operandMissing, operandUnlike}
 use Rattle.netlist.specs.declared.Operand.{Operand}
@@ -21,12 +21,6 @@ use Rattle.translate.specs.Tables.{themselves, operandAt}
 -- equal numbers do not differ
 pub equal-not : (a b : ℕ) → a ≡ b → not (eqb a b) ≡ false
 equal-not a b e = rw (eq-eqb a b e)
-
--- a register is a variable that there is
-pub no-register-beyond : (ds : List Declaration) (v : ℕ) → registerAt ds v ≡ true → v < length ds
-no-register-beyond [] v h = absurd (let z : _≡_ {A = ℕ} 0 1 = cc in omega arith)
-no-register-beyond (d ∷ ds) zero h = omega arith
-no-register-beyond (d ∷ ds) (suc v) h = let l : v < length ds = no-register-beyond ds v h in omega arith
 
 module _ (ds : List Declaration) where
   -- an operand of width w that may stand after these cells

@@ -19,10 +19,11 @@ use Rattle.verilog.proofs.Typed.{TypedStatement, assign-typed, assignBit-typed,
 use Rattle.translate.specs.Tables.{Tables, heldOperand, replaced, Translated}
 use Rattle.translate.specs.Translation.{Emitted, withCell, translateExpression, translateStatement, translateBlock, translateItems, translateAll, translatedModule}
 use Rattle.tagged.proofs.PassLaws.{none-after, one-after}
-use Rattle.translate.proofs.Operands.{no-register-beyond, GoodOperand, good-more, good-width, constant-good, cell-good, table-set, themselves-good}
+use Rattle.translate.proofs.Operands.{GoodOperand, good-more, good-width, constant-good, cell-good, table-set, themselves-good}
 use Rattle.translate.proofs.CellsPass.{CellPasses, two-passes, put-passes}
 use Rattle.translate.proofs.ExpressionCells.{GoodEmitted, with-cell-good, held-good, expression-good}
 use Rattle.translate.proofs.MergeCells.{GoodTables, tables-more, GoodTranslated, after-good, joined-good}
+use Rattle.verilog.proofs.BreaksLaws.{register-exists}
 
 module _ (ds : List Declaration) where
   -- an assignment replaces an operand by one of the same width
@@ -58,7 +59,7 @@ module _ (ds : List Declaration) where
         let x = translateExpression (t .current) n e in
         let q = expression-good ds earlier n h (g .current) p in
         let old : Operand = heldOperand kind t v in
-        let o = kind-good kind v g (no-register-beyond ds v r) in
+        let o = kind-good kind v g (register-exists ds v r) in
         let put : Emitted = withCell n (x .cells) (operandWidth old) (Cell.Put (operandWidth old) old k (x .operand)) in
         let y : GoodEmitted ds earlier put (operandWidth old) =
         with-cell-good ds (Cell.Put (operandWidth old) old k (x .operand)) h (q .pass) (put-passes ds (good-more ds (x .cells) o) (q .good) k l w) refl

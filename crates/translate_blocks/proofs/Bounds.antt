@@ -23,10 +23,10 @@ use Rattle.verilog.specs.Reading.{noExpression, afterFront, expressionWith, exp
 use Rattle.translate.specs.Translation.{Emitted, translateExpression}
 use Rattle.translate_blocks.specs.Words.{packed, unpacked, slotOf, currentOperands, Written, mergeWords}
 use Rattle.translate_blocks.specs.Writing.{expressionAt, Translator, behind, untouched, writeAll, writeAssign, writeAssignBit, joinWords, writeItems, writeFront, writeIf, writeCase, writeBy, writeStatement, writeBlock, writeItem, writeProcess, writeProcesses}
-use Rattle.translate_blocks.specs.Log.{fieldsSize, changes, equalCell}
+use Rattle.translate_blocks.specs.Log.{changes, equalCell}
 use Rattle.translate_blocks.proofs.SortBranches.{test-holds, branch-holds, statement-holds, expression-holds}
 use Rattle.translate_blocks.proofs.ChangeCounts.{changes-none, changes-set, changes-twice, merged-length, merged-few, merged-changes}
-use Rattle.translate_blocks.proofs.FieldSizes.{frontSize, front-within, front-sized, fields-within}
+use Rattle.translate_blocks.proofs.FieldSizes.{frontSize, front-within, front-sized, fields-within, fieldsSize}
 
 -- an expression adds a cell for every third byte of its field at most
 

@@ -15,9 +15,9 @@ use Rattle.netlist.specs.declared.Operand.the-variants as Operand
 use Rattle.netlist.specs.declared.Cell.{Cell}
 use Rattle.translate_blocks.specs.Words.{Written, mergeWords}
 use Rattle.translate_blocks.specs.Writing.{Translator, behind, untouched, joinWords, writeItems, writeItem}
-use Rattle.translate_blocks.specs.Log.{fieldsSize, changes, Changes, andChange, changesFrom, changesOf, putWords, patched, logEntries, Forward, onward, arrived, equalCell, markOf, forwardItems, mergeMark, backwardItems, closed, itemsByLoops}
+use Rattle.translate_blocks.specs.Log.{changes, Changes, andChange, changesFrom, changesOf, putWords, patched, logEntries, Forward, onward, arrived, equalCell, markOf, forwardItems, mergeMark, backwardItems, closed, itemsByLoops}
 use Rattle.translate_blocks.proofs.SortBranches.{branch-related, branch-holds}
-use Rattle.translate_blocks.proofs.FieldSizes.{fields-within}
+use Rattle.translate_blocks.proofs.FieldSizes.{fields-within, fieldsSize}
 use Rattle.translate_blocks.proofs.Bounds.{item-bounded}
 
 -- a slot and a word for each entry that differs

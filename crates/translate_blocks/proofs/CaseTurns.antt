@@ -1,12 +1,10 @@
 -- The turns of both loops of a case, in the form in which code asks them: what the forward loop has so far, in front of what the rest of the fields gives, stays
 -- the same until the list ends, and the backward loop takes in one mark from the end. By the loops' definitions. Assumes nothing.
-use mathlib.Core.Path.{_≡_, refl, sym, ap, ap₂, _∙_}
+use mathlib.Core.Path.{_≡_, sym, ap, ap₂, _∙_}
 use mathlib.Core.List.{List, [], _∷_, _++_, append-assoc, append-nil}
-use Prim.Native.Nat.{ℕ, suc, _+_, _-_, _<_}
+use Prim.Native.Nat.{ℕ, _+_, _-_}
 use native.Mathlib.Omega.{arith}
-use lib.ListN.{length, getD, take, drop}
-use lib.Seq.{drop-cons}
-use types.Run.{miss}
+use lib.ListN.{length, take, drop}
 use Rattle.tagged.specs.Fields.{openOf, fieldsAt}
 use Rattle.tagged.specs.declared.sorts.Sort.{Sort}
 use Rattle.tagged.specs.declared.sorts.Sort.the-variants as Sort
@@ -15,27 +13,10 @@ use Rattle.tagged.specs.declared.fields.Opened.the-variants as Opened
 use Rattle.tagged.proofs.FieldLists.{field-more, field-none}
 use Rattle.netlist.specs.declared.Operand.{Operand}
 use Rattle.netlist.specs.declared.Cell.{Cell}
-use Rattle.verilog.proofs.FormLaws.{Among}
+use Rattle.verilog.proofs.FormLaws.{Among, butBranch, not-branch}
 use Rattle.translate_blocks.specs.Words.{Written}
-use Rattle.translate_blocks.specs.Writing.{Translator, behind, untouched, byBranch}
-use Rattle.translate_blocks.specs.Log.{Mark, logEntries, Forward, onward, arrived, equalCell, markOf, forwardItems, mergeMark, backwardItems}
-
--- all but an item and a block, as a match counts the sorts
-abbrev pub butBranch : List ℕ
-butBranch = 0 ∷ 1 ∷ 2 ∷ 3 ∷ 6 ∷ 7 ∷ 8 ∷ 9 ∷ 10 ∷ []
-
-not-branch : {A : Type 0} (s : Sort) (item block other : A) → Among butBranch s → byBranch s item block other ≡ other
-not-branch Sort.Module item block other k = refl
-not-branch (Sort.Declaration d) item block other k = refl
-not-branch Sort.Process item block other k = refl
-not-branch (Sort.Statement s) item block other k = refl
-not-branch Sort.Item item block other k = absurd (miss butBranch 4 tt k)
-not-branch Sort.Block item block other k = absurd (miss butBranch 5 tt k)
-not-branch (Sort.Expression e) item block other k = refl
-not-branch (Sort.Cell c) item block other k = refl
-not-branch Sort.Drive item block other k = refl
-not-branch Sort.Netlist item block other k = refl
-not-branch Sort.Unknown item block other k = refl
+use Rattle.translate_blocks.specs.Writing.{Translator, untouched}
+use Rattle.translate_blocks.specs.Log.{Mark, logEntries, Forward, onward, arrived, equalCell, markOf, forwardItems}
 
 -- forward
 
@@ -93,10 +74,3 @@ pub log-more : (marks : List Mark) (m : Mark) → logEntries (marks ++ (m ∷ []
 unfolding logEntries
 log-more [] m = omega arith
 log-more (k ∷ marks) m = omega (arith, log-more marks m)
-
--- backward: from what the marks behind one give to what it gives with them
-pub backward-turn : (entry : List ℕ) (marks : List Mark) (table : List ℕ) (n i : ℕ) (none : Mark) → i < length marks →
-    (rest : Written) → rest ≡ backwardItems entry (drop (suc i) marks) table n →
-    behind (rest .cells) (mergeMark entry (getD marks i none) (rest .table) (n + length (rest .cells))) ≡ backwardItems entry (drop i marks) table n
-unfolding backwardItems
-backward-turn entry marks table n i none h rest e = rw e (sym (ap (λ (l : List Mark). backwardItems entry l table n) (drop-cons marks i none h)))

@@ -11,14 +11,13 @@ use lib.Seq.{drop-cons}
 use borrow.Author.Tests.{eq-eqb, ne-eqb}
 use Rattle.tagged.specs.Bytes.{Wrote}
 use Rattle.tagged.specs.Fields.{allBytesOf}
-use Rattle.tagged.proofs.AllBytesLaws.{all-length}
+use Rattle.tagged.proofs.AllBytesLaws.{all-length, bytes-joined}
 use Rattle.tagged.proofs.WriteLaws.{wrote-then, wrote-none}
 use Rattle.netlist.specs.Form.{driveBytes}
 use Rattle.netlist.specs.declared.Drive.{Drive}
 use Rattle.netlist.proofs.CellBytes.{drive-length}
 use Rattle.netlist.proofs.PutLaws.{wrote-as}
 use Rattle.translate_blocks.specs.Ends.{driveBy, markedDrive, drivesFrom}
-use Rattle.translate_blocks.proofs.EmitLaws.{bytes-joined}
 
 module _ (count : ℕ) (firsts table : List ℕ) where
   -- a variable that is not marked has no drive

@@ -1,26 +1,19 @@
 -- Cells written and counted: none, one, and some after others are one writing of them all; a cell takes at most 22 bytes. From the laws of writing bytes.
 use mathlib.Core.Path.{_≡_, refl, sym, ap, _∙_, subst}
-use mathlib.Core.List.{List, [], _∷_, _++_, append-assoc, append-nil}
+use mathlib.Core.List.{List, [], _∷_, _++_, append-nil}
 use Prim.Native.Nat.{ℕ, _+_, _*_, _≤_}
 use native.Mathlib.Nat.{add-zero, add-assoc}
 use native.Mathlib.Omega.{arith}
 use lib.ListN.{length, length-append}
 use Rattle.tagged.specs.Bytes.{Wrote}
 use Rattle.tagged.specs.Fields.{allBytesOf}
-use Rattle.tagged.proofs.AllBytesLaws.{all-length}
+use Rattle.tagged.proofs.AllBytesLaws.{all-length, bytes-joined}
 use Rattle.tagged.proofs.WriteLaws.{wrote-then, wrote-none, wrote-length}
 use Rattle.netlist.specs.Form.{cellBytes}
 use Rattle.netlist.specs.declared.Cell.{Cell}
 use Rattle.netlist.proofs.CellBytes.{cell-length}
 use Rattle.netlist.proofs.PutLaws.{wrote-as}
 use Rattle.translate_blocks.specs.Writing.{Emits}
-
--- the bytes of two lists, one after the other
-pub bytes-joined : {A : Type 0} (bytes : A → List ℕ) (l m : List A) → allBytesOf bytes (l ++ m) ≡ allBytesOf bytes l ++ allBytesOf bytes m
-unfolding allBytesOf
-bytes-joined bytes [] m = refl
-bytes-joined bytes (a ∷ l) m =
-    ap (λ (rest : List ℕ). bytes a ++ rest) (bytes-joined bytes l m) ∙ sym (append-assoc (bytes a) (allBytesOf bytes l) (allBytesOf bytes m))
 
 -- nothing is emitted
 pub emits-none : {o : List ℕ} {i n : ℕ} → Emits o i n [] o i n

@@ -1,17 +1,21 @@
 -- How many bytes fields take: the one at the front and what follows it lie within a payload, and so do all fields of a list.
 use mathlib.Core.Path.{_≡_, refl, subst}
-use mathlib.Core.List.{List, []}
+use mathlib.Core.List.{List, [], _∷_}
 use Prim.Native.Nat.{ℕ, zero, suc, _+_, _-_, _≤_}
 use native.Mathlib.Omega.{arith}
 use lib.ListN.{length, take, drop, length-take, length-drop}
-use Rattle.tagged.specs.Fields.{openOf, onField, fieldsAt}
+use Rattle.tagged.specs.Fields.{openOf, onField, fieldsAt, Placed, Field}
 use Rattle.tagged.specs.declared.sorts.Sort.{Sort}
 use Rattle.tagged.specs.declared.fields.Opened.{Opened}
 use Rattle.tagged.specs.declared.fields.Opened.the-variants as Opened
 use Rattle.tagged.proofs.FieldLaws.{Whole, open-none, open-whole}
 use Rattle.tagged.proofs.FieldLists.{fields-none, fields-more}
 use Rattle.verilog.specs.Reading.{frontBy, afterFront}
-use Rattle.translate_blocks.specs.Log.{fieldsSize}
+
+-- the bytes of the fields of a list, each with its header
+unfoldable pub fieldsSize : List (Placed Field) → ℕ
+fieldsSize [] = 0
+fieldsSize (f ∷ l) = length (f .what .payload) + 3 + fieldsSize l
 
 -- the bytes of the field at the front, its header counted
 abbrev pub frontSize : List ℕ → ℕ

@@ -15,7 +15,7 @@ use Rattle.tagged.proofs.FieldLists.{field-within}
 use Rattle.netlist.specs.declared.Operand.{Operand}
 use Rattle.netlist.specs.declared.Cell.{Cell}
 use Rattle.netlist.specs.declared.Cell.the-variants as Cell
-use Rattle.verilog.proofs.FormLaws.{Among}
+use Rattle.verilog.proofs.FormLaws.{Among, butBranch}
 use Rattle.translate_blocks.specs.Words.{Written}
 use Rattle.translate_blocks.specs.Writing.{Emits, itemOperand, writeItem, writeBlock, LogKept, Translates, Room}
 use Rattle.translate_blocks.specs.Log.{changes, changesOf, Mark, logEntries, Forward, onward, equalCell, markOf, forwardItems, backwardItems, Filed, Forwards, Marks}
@@ -25,7 +25,7 @@ use Rattle.translate_blocks.proofs.EmitLaws.{emits-none, emits-then, em
 use Rattle.translate_blocks.proofs.FieldSizes.{fields-within}
 use Rattle.translate_blocks.proofs.Bounds.{Bounded, items-bounded, item-bounded, block-bounded}
 use Rattle.translate_blocks.proofs.CaseLoops.{changes-counted, mark-small, case-by-loops, case-log}
-use Rattle.translate_blocks.proofs.CaseTurns.{butBranch, forward-none, forward-other, forward-block, forward-item, log-more}
+use Rattle.translate_blocks.proofs.CaseTurns.{forward-none, forward-other, forward-block, forward-item, log-more}
 use Rattle.translate_blocks.proofs.WritingSteps.{log-same, log-then, log-below, filed-stays, room-less, room-emitted}
 
 -- what the fields of a list give, from a place and a number of cells

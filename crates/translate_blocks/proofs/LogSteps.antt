@@ -156,16 +156,6 @@ module _ (entry table slots words : List ℕ) {top past : ℕ} {table′ slots�
             (omega (arith, room, past-is));
       }
 
--- a copy
-
-pub copy-turn : (side entry : List ℕ) (index : ℕ) {side′ : List ℕ} → index < length entry → index < length side → take index side ≡ take index entry →
-    side′ ≡ set side index (getD entry index 0) → take (index + 1) side′ ≡ take (index + 1) entry
-copy-turn side entry index h i e t =
-    rw (add-one index, t) (take-suc-set side index (getD entry index 0) i ∙ ap (λ (l : List ℕ). l ++ (getD entry index 0 ∷ [])) e ∙ sym (take-suc entry index 0 h))
-
-pub copy-done : (side entry : List ℕ) (index : ℕ) → index ≡ length entry → take index side ≡ take index entry → take (length entry) side ≡ entry
-copy-done side entry index h e = ap (λ (k : ℕ). take k side) (sym h) ∙ e ∙ take-all index entry (omega arith)
-
 -- changes put on a table
 
 pub put-turn : (slots words side last : List ℕ) (index : ℕ) {side′ : List ℕ} → index < length slots → index < length words →

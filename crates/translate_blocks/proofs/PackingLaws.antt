@@ -1,10 +1,14 @@
 -- An operand in one word: where its width and its number fit their bytes it comes back from the word, so words are the same just where operands are.
--- By arithmetic on the word's three parts.
+-- And a table copied word by word. By arithmetic on the word's three parts.
 use mathlib.Core.Path.{_≡_, refl, sym, ap, _∙_, subst}
 use mathlib.Core.Bool.{Bool, true, false, cond}
-use Prim.Native.Nat.{ℕ, _/_, _%_, _^_}
+use Prim.Native.Nat.{ℕ, _+_, _/_, _%_, _^_, _<_}
+use native.Mathlib.Numerals.{add-one}
 use native.Mathlib.Omega.{arith}
 use lib.Dec.{eqb}
+use lib.ListN.{length, getD, take, set}
+use lib.Seq.{take-suc, take-suc-set, take-all}
+use mathlib.Core.List.{List, [], _∷_, _++_}
 use borrow.Author.Tests.{eqb-true, eq-eqb, ne-eqb}
 use Rattle.netlist.specs.Fits.{FitsByte, FitsFour, FitsOperand}
 use Rattle.netlist.specs.declared.Operand.{Operand}
@@ -76,3 +80,12 @@ same-packed a b h k =
     tests-agree (sameOperand a b) (eqb (packed a) (packed b))
     (λ same. eq-eqb (packed a) (packed b) (ap packed (same-operand a b same)))
     (λ equal. subst (λ (o : Operand). sameOperand a o ≡ true) (packed-injective a b h k (eqb-true (packed a) (packed b) equal)) (operand-self a))
+
+-- a table copied word by word: one turn, and the end
+pub copy-turn : (copy words : List ℕ) (index : ℕ) {copy′ : List ℕ} → index < length words → index < length copy → take index copy ≡ take index words →
+    copy′ ≡ set copy index (getD words index 0) → take (index + 1) copy′ ≡ take (index + 1) words
+copy-turn copy words index h i e t =
+    rw (add-one index, t) (take-suc-set copy index (getD words index 0) i ∙ ap (λ (l : List ℕ). l ++ (getD words index 0 ∷ [])) e ∙ sym (take-suc words index 0 h))
+
+pub copy-done : (copy words : List ℕ) (index : ℕ) → index ≡ length words → take index copy ≡ take index words → take (length words) copy ≡ words
+copy-done copy words index h e = ap (λ (k : ℕ). take k copy) (sym h) ∙ e ∙ take-all index words (omega arith)

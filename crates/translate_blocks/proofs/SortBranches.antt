@@ -5,7 +5,7 @@ use Rattle.tagged.specs.declared.sorts.StatementSort.{StatementSort}
 use Rattle.tagged.specs.declared.sorts.ExpressionSort.{ExpressionSort}
 use Rattle.tagged.specs.declared.sorts.Sort.{Sort}
 use Rattle.tagged.specs.declared.sorts.Sort.the-variants as Sort
-use Rattle.translate_blocks.specs.Writing.{byBranch}
+use Rattle.verilog.specs.Reading.{byBranch}
 
 -- by a test
 pub test-holds : {A : Type 0} (P : A → Type 0) (t : Bool) {a b : A} → P a → P b → P (cond t a b)

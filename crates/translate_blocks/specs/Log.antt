@@ -14,12 +14,8 @@ use Rattle.netlist.specs.declared.Operand.the-variants as Operand
 use Rattle.netlist.specs.declared.Cell.{Cell}
 use Rattle.netlist.specs.declared.Cell.the-variants as Cell
 use Rattle.translate_blocks.specs.Words.{Written, mergeWords}
-use Rattle.translate_blocks.specs.Writing.{Emits, Translator, behind, untouched, byBranch, itemOperand, LogKept}
-
--- the bytes of the fields of a list, each with its header
-unfoldable pub fieldsSize : List (Placed Field) → ℕ
-fieldsSize [] = 0
-fieldsSize (f ∷ l) = length (f .what .payload) + 3 + fieldsSize l
+use Rattle.translate_blocks.specs.Writing.{Emits, Translator, behind, untouched, itemOperand, LogKept}
+use Rattle.verilog.specs.Reading.{byBranch}
 
 -- 1 for entries that differ
 abbrev pub unlike : ℕ → ℕ → ℕ

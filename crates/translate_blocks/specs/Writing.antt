@@ -20,7 +20,7 @@ use Rattle.netlist.specs.declared.Operand.{Operand}
 use Rattle.netlist.specs.declared.Operand.the-variants as Operand
 use Rattle.netlist.specs.declared.Cell.{Cell}
 use Rattle.netlist.specs.declared.Cell.the-variants as Cell
-use Rattle.verilog.specs.Reading.{frontBy, afterFront, expressionIn}
+use Rattle.verilog.specs.Reading.{frontBy, afterFront, expressionIn, byBranch}
 use Rattle.translate_blocks.specs.Words.{packed, unpacked, slotOf, currentOperands, Written, mergeWords}
 use Rattle.translate.specs.Translation.{Emitted, translateExpression}
 
@@ -82,20 +82,6 @@ writeAssignBit count d kind l table n =
 abbrev pub joinWords : Operand → ℕ → Written → Written → Written
 joinWords condition n a b =
     behind (a .cells ++ b .cells) (mergeWords condition (n + length (a .cells) + length (b .cells)) (a .table) (b .table))
-
--- by what stands next in a case: an item, the default block, or what ends it
-abbrev pub byBranch : {A : Type 0} → Sort → A → A → A → A
-byBranch Sort.Item item block other = item
-byBranch Sort.Block item block other = block
-byBranch (Sort.Expression e) item block other = other
-byBranch Sort.Module item block other = other
-byBranch (Sort.Declaration d) item block other = other
-byBranch Sort.Process item block other = other
-byBranch (Sort.Statement s) item block other = other
-byBranch (Sort.Cell c) item block other = other
-byBranch Sort.Drive item block other = other
-byBranch Sort.Netlist item block other = other
-byBranch Sort.Unknown item block other = other
 
 -- the operand of an item's constant
 abbrev pub itemOperand : List ℕ → Operand

@@ -14,6 +14,7 @@ use crate::emit::Emission;
 use crate::emit::emit;
 use crate::expression::expression;
 use crate::merge_words::merge;
+use crate::packing::copy_words;
 use crate::packing::pack;
 use crate::packing::put_word;
 use crate::packing::slot_of;
@@ -40,18 +41,6 @@ pub struct Progress {
     pub at: usize,
     pub cells: u32,
     pub top: usize,
-}
-
-// Copies a table into the front of another.
-fn copy_words(words: &[u64], copy: &mut [u64])
-    requires { ⌜ (length (now words) ≤ length (now copy)) × (length (now copy) ≤ 128) ⌝ }
-    ensures { λ r. ⌜ take (length (now (words .entry))) (now (copy .exit)) ≡ now (words .entry) ⌝ }
-{
-    let mut index: usize = 0;
-    while index < words.len() {
-        copy[index] = words[index];
-        index = index + 1;
-    }
 }
 
 // The first so many words of a table, or all of them.
@@ -279,8 +268,8 @@ fn if_sides(
     payload: &[u8],
     depth: usize,
     count: usize,
-    other: &mut [u64],
-    table: &mut [u64],
+    copy: &mut [u64],
+    original: &mut [u64],
     out: &mut [u8],
     at: usize,
     cells: u32,
@@ -288,18 +277,18 @@ fn if_sides(
     words: &mut [u64],
     top: usize,
 ) -> Emission
-    requires { ⌜ now other ≡ now table ⌝ }
-    requires { ⌜ Room (length (now payload) + 3) count (now table) (now slots) (now words) at cells top ⌝ }
-    ensures { λ r. ⌜ Translates (writeIf count depth (writeBlock count depth) (now (payload .entry)) (now (table .entry)) cells) (now (out .entry)) at cells
-        (now (slots .entry)) (now (words .entry)) top (now (out .exit)) (r .at) (r .cells) (now (table .exit)) (now (slots .exit)) (now (words .exit)) ⌝ }
+    requires { ⌜ now copy ≡ now original ⌝ }
+    requires { ⌜ Room (length (now payload) + 3) count (now original) (now slots) (now words) at cells top ⌝ }
+    ensures { λ r. ⌜ Translates (writeIf count depth (writeBlock count depth) (now (payload .entry)) (now (original .entry)) cells) (now (out .entry)) at cells
+        (now (slots .entry)) (now (words .entry)) top (now (out .exit)) (r .at) (r .cells) (now (original .exit)) (now (slots .exit)) (now (words .exit)) ⌝ }
 {
-    let condition = expression(payload, depth, front_words(table, count), out, at, cells);
+    let condition = expression(payload, depth, front_words(original, count), out, at, cells);
     let one = after_front(payload);
     let first = front_block(
         one,
         depth,
         count,
-        other,
+        copy,
         out,
         condition.at,
         condition.cells,
@@ -312,7 +301,7 @@ fn if_sides(
         zero,
         depth,
         count,
-        table,
+        original,
         out,
         first.at,
         first.cells,
@@ -321,7 +310,7 @@ fn if_sides(
         top,
     );
     let operand = condition.operand;
-    merge(out, second.at, second.cells, operand, other, table)
+    merge(out, second.at, second.cells, operand, copy, original)
 }
 
 // The block at the front of a part.

@@ -10,6 +10,7 @@ ghost use Rattle.translate_blocks.specs.Writing.{Emits};
 ghost use Rattle.translate_blocks.specs.Log.{changes, changesOf, putWords, Mark, mergeMark, backwardItems, Filed, ItemLogged, markStart, markAt};
 use crate::emit::Emission;
 use crate::merge_words::merge;
+use crate::packing::copy_words;
 use crate::packing::put_word;
 use crate::packing::word_at;
 use netlist::Operand;
@@ -75,18 +76,6 @@ pub fn log_item(
     put_byte(slots, past, count)
 }
 
-// Copies a table to the front of another.
-fn copy_words(side: &mut [u64], entry: &[u64])
-    requires { ⌜ length (now entry) ≤ length (now side) ⌝ }
-    ensures { λ r. ⌜ take (length (now (entry .entry))) (now (side .exit)) ≡ now (entry .entry) ⌝ }
-{
-    let mut index: usize = 0;
-    while index < entry.len() {
-        put_word(side, index, word_at(entry, index));
-        index = index + 1;
-    }
-}
-
 // Puts a word into each of some slots.
 fn put_changes(side: &mut [u64], slots: &[u8], words: &[u64])
     requires { ⌜ length (now words) ≡ length (now slots) ⌝ }
@@ -132,7 +121,7 @@ fn merge_mark(
     let mark = past - 1;
     let number = (word_at(words, mark) % 4294967296) as u32;
     let mut side = [0u64; 128];
-    copy_words(&mut side, entry);
+    copy_words(entry, &mut side);
     put_changes(&mut side, &slots[start..mark], &words[start..mark]);
     let count = entry.len();
     let condition = Operand::Cell(1, number);

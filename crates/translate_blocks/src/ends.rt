@@ -15,6 +15,7 @@ use crate::packing::word_at;
 use netlist::Drive;
 use netlist::Operand;
 use netlist::write::put_drive;
+use verilog_check::judge::first_of;
 
 // Puts the word of each variable itself, from an index on.
 fn put_variables(table: &mut [u64], at: usize, widths: &[u8])
@@ -39,18 +40,6 @@ pub fn start_table(widths: &[u8], table: &mut [u64])
     put_variables(table, widths.len(), widths);
 }
 
-// The first assignment to a variable, as the table of first assignments has it; 0 for none.
-fn first_at(firsts: &[usize], variable: u8) -> usize
-    ensures { λ r. ⌜ r ≡ getD (now (firsts .entry)) variable 0 ⌝ }
-{
-    let place = variable as usize;
-    if place < firsts.len() {
-        firsts[place]
-    } else {
-        0
-    }
-}
-
 // Where a table of so many variables has the operand that drives a variable with this first assignment.
 fn drive_slot(count: usize, first: usize, variable: u8) -> usize
     requires { ⌜ count ≤ mostVariables ⌝ }
@@ -68,7 +57,7 @@ fn drive_of(count: usize, firsts: &[usize], table: &[u64], variable: u8) -> Driv
     requires { ⌜ count ≤ mostVariables ⌝ }
     ensures { λ r. ⌜ r ≡ driveBy count (now (firsts .entry)) (now (table .entry)) variable ⌝ }
 {
-    let slot = drive_slot(count, first_at(firsts, variable), variable);
+    let slot = drive_slot(count, first_of(firsts, variable), variable);
     let operand = unpack(word_at(table, slot));
     Drive {
         variable: variable,

@@ -1,7 +1,7 @@
 // Operands in words, as the tables hold them.
 ghost use mathlib.Core.Path.{_≡_};
 ghost use Prim.Native.Nat.{_^_, _≤_};
-ghost use lib.ListN.{getD, set};
+ghost use lib.ListN.{length, getD, take, set};
 ghost use Rattle.translate_blocks.specs.Words.{wordOf, packed, unpacked, slotOf};
 use netlist::Operand;
 use tagged::sorts::Kind;
@@ -62,5 +62,17 @@ pub fn put_word(table: &mut [u64], index: usize, word: u64)
 {
     if index < table.len() {
         table[index] = word;
+    }
+}
+
+// Copies a table into the front of another.
+pub fn copy_words(words: &[u64], copy: &mut [u64])
+    requires { ⌜ length (now words) ≤ length (now copy) ⌝ }
+    ensures { λ r. ⌜ take (length (now (words .entry))) (now (copy .exit)) ≡ now (words .entry) ⌝ }
+{
+    let mut index: usize = 0;
+    while index < words.len() {
+        put_word(copy, index, word_at(words, index));
+        index = index + 1;
     }
 }

@@ -29,15 +29,15 @@ use Rattle.translate.specs.Tables.{Tables, Translated}
 use Rattle.translate_blocks.specs.Words.{tableWords}
 use Rattle.translate.specs.Translation.{Emitted, translateExpression, joined, translateStatement, translateBlock, translateItems, translateAll}
 use Rattle.translate_blocks.specs.Writing.{writeAll, writeItems, writeFront, writeStatement, writeBlock, writeItem, writeProcess, writeProcesses}
-use Rattle.translate.proofs.Operands.{no-register-beyond}
 use Rattle.translate.proofs.FittingTables.{FitsTables}
 use Rattle.translator.proofs.JoinedWords.{Gives, gives-by, after-number, joined-number}
 use Rattle.translator.proofs.WrittenLists.{Leads, leads-on, none-gives}
 use Rattle.translator.proofs.WrittenParts.{assign-gives, assignBit-gives, if-gives, case-gives, block-gives, front-block-gives, last-block-gives, item-gives, default-gives}
+use Rattle.verilog.proofs.BreaksLaws.{register-exists}
 
 module _ (ds : List Declaration) (count : ℕ) (counted : length ds ≡ count) where
   register-there : (v : ℕ) → registerAt ds v ≡ true → v < count
-  register-there v h = omega (arith, counted, no-register-beyond ds v h)
+  register-there v h = omega (arith, counted, register-exists ds v h)
 
   mutual
     unfolding translateStatement FitsStatement statementDepth statementBytes blockBytes

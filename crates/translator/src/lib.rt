@@ -2,7 +2,7 @@
 pub mod passes;
 
 ghost use mathlib.Core.Path.{_≡_};
-ghost use lib.ListN.{length, take};
+ghost use lib.ListN.{length};
 ghost use Rattle.tagged.specs.Answers.{Promise};
 ghost use Rattle.tagged.specs.declared.answers.Answer.the-variants as Answer;
 ghost use Rattle.verilog.specs.Answer.{moduleAnswer};
@@ -11,22 +11,12 @@ use crate::passes::measure_and_write;
 use tagged::answers::Answer;
 use tagged::answers::Translation;
 use tagged::bytes::from;
+use tagged::bytes::front;
 use tagged::declarations::declared_bytes;
 use tagged::declarations::variable_table;
 use tagged::limits::Variables;
 use verilog_check::check;
 use verilog_check::survey::survey;
-
-// The front of a part, so far as it reaches.
-fn front(part: &[u8], end: usize) -> &[u8]
-    ensures { λ r. ⌜ now r ≡ take end (now (part .entry)) ⌝ }
-{
-    if end <= part.len() {
-        &part[0..end]
-    } else {
-        part
-    }
-}
 
 // The netlist of an accepted module: its parts and tables, and then both passes over them.
 fn translate_accepted(file: &[u8], out: &mut [u8]) -> Translation

@@ -38,6 +38,12 @@ declares-register : {ds : List Declaration} {v : ℕ} {d : Declaration} → Decl
 declares-register number-zero = refl
 declares-register (number-more h) = declares-register h
 
+-- a register is a variable that there is
+pub register-exists : (ds : List Declaration) (v : ℕ) → registerAt ds v ≡ true → v < length ds
+register-exists [] v h = absurd (let z : _≡_ {A = ℕ} 0 1 = cc in omega arith)
+register-exists (d ∷ ds) zero h = omega arith
+register-exists (d ∷ ds) (suc v) h = let l : v < length ds = register-exists ds v h in omega arith
+
 pub missing-register : (ds : List Declaration) (v : ℕ) → length ds ≤ v → registerAt ds v ≡ false
 missing-register [] v h = refl
 missing-register (d ∷ ds) zero h = absurd (omega arith)

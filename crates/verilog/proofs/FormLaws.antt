@@ -31,6 +31,7 @@ use Rattle.tagged.proofs.FieldLaws.{then-past, then-refused, fixed-short, fixed
 use Rattle.tagged.proofs.ListLaws.{turn-done, turn-refused}
 use Rattle.verilog.specs.Form.{expressionParts, expressionOf, expressionBody, constantOf, constantBody, statementParts, statementOf, statementBody}
 use Rattle.verilog.specs.Form.{blockOf, blockBody, itemOf, itemBody, processOf, processBody, moduleOf, moduleBody}
+use Rattle.verilog.specs.Reading.{byBranch}
 
 -- fixed bytes and nothing else
 module _ (n base owner : ℕ) (l : List ℕ) where
@@ -59,6 +60,23 @@ butExpression = 0 ∷ 1 ∷ 2 ∷ 3 ∷ 4 ∷ 5 ∷ 7 ∷ 8 ∷ 9 ∷ 10 ∷ []
 
 abbrev pub butStatement : List ℕ
 butStatement = 0 ∷ 1 ∷ 2 ∷ 4 ∷ 5 ∷ 6 ∷ 7 ∷ 8 ∷ 9 ∷ 10 ∷ []
+
+-- all but an item and a block, as a match counts the sorts
+abbrev pub butBranch : List ℕ
+butBranch = 0 ∷ 1 ∷ 2 ∷ 3 ∷ 6 ∷ 7 ∷ 8 ∷ 9 ∷ 10 ∷ []
+
+pub not-branch : {A : Type 0} (s : Sort) (item block other : A) → Among butBranch s → byBranch s item block other ≡ other
+not-branch Sort.Module item block other k = refl
+not-branch (Sort.Declaration d) item block other k = refl
+not-branch Sort.Process item block other k = refl
+not-branch (Sort.Statement s) item block other k = refl
+not-branch Sort.Item item block other k = absurd (miss butBranch 4 tt k)
+not-branch Sort.Block item block other k = absurd (miss butBranch 5 tt k)
+not-branch (Sort.Expression e) item block other k = refl
+not-branch (Sort.Cell c) item block other k = refl
+not-branch Sort.Drive item block other k = refl
+not-branch Sort.Netlist item block other k = refl
+not-branch Sort.Unknown item block other k = refl
 
 -- a match that found another sort
 pub not-expression : {A : Type 0} (s : Sort) (f : ExpressionSort → A) (other : A) → Among butExpression s → other ≡ onExpression s f other

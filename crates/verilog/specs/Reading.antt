@@ -29,6 +29,20 @@ frontBy read none l = onField (openOf 0 0 l) (λ s n. read s (take n (drop 3 l))
 abbrev pub afterFront : List ℕ → List ℕ
 afterFront l = onField (openOf 0 0 l) (λ s n. drop (n + 3) l) []
 
+-- by what stands next in a case: an item, the default block, or what ends it
+abbrev pub byBranch : {A : Type 0} → Sort → A → A → A → A
+byBranch Sort.Item forItem forBlock otherwise = forItem
+byBranch Sort.Block forItem forBlock otherwise = forBlock
+byBranch (Sort.Expression e) forItem forBlock otherwise = otherwise
+byBranch Sort.Module forItem forBlock otherwise = otherwise
+byBranch (Sort.Declaration d) forItem forBlock otherwise = otherwise
+byBranch Sort.Process forItem forBlock otherwise = otherwise
+byBranch (Sort.Statement s) forItem forBlock otherwise = otherwise
+byBranch (Sort.Cell c) forItem forBlock otherwise = otherwise
+byBranch Sort.Drive forItem forBlock otherwise = otherwise
+byBranch Sort.Netlist forItem forBlock otherwise = otherwise
+byBranch Sort.Unknown forItem forBlock otherwise = otherwise
+
 -- an expression by its sort and payload; `inner` reads the inner expression at the front
 abbrev pub expressionWith : (List ℕ → Expression) → ExpressionSort → List ℕ → Expression
 expressionWith inner ExpressionSort.Constant l = constant (getD l 0 0) (fourOf (drop 1 l))

@@ -1,27 +1,18 @@
 -- What a field that does not break rule 6 reads or assigns is a variable that exists: two tests of reads, or of assignments, that agree on these agree on the field.
 -- By cases on the field.
-use mathlib.Core.Path.{_≡_, refl, sym, _∙_}
-use mathlib.Core.Bool.{Bool, true, false, false≢true}
+use mathlib.Core.Path.{_≡_, refl}
+use mathlib.Core.Bool.{Bool, false}
 use mathlib.Core.List.{List}
 use Prim.Native.Nat.{ℕ, _<_}
-use lib.Dec.{ltb}
 use lib.ListN.{length}
-use borrow.Author.Tests.{ltb-true, ltb-false, leb-false, not-false}
+use borrow.Author.Tests.{leb-false, not-false}
 use Rattle.tagged.specs.Declarations.{Declaration, registerAt}
 use Rattle.tagged.specs.declared.sorts.Kind.{Kind}
 use Rattle.tagged.specs.declared.answers.Rule.the-variants as Rule
 use Rattle.verilog.specs.Tree.{constant, variable, fixedBit, chosenBit, one, two, assign, assignBit, ifElse, case}
 use Rattle.verilog.specs.Nodes.{What, declaration, process, expression, statement, itemOf, Node}
 use Rattle.verilog.specs.Rules.{isAssignment, isRead, breaks}
-use Rattle.verilog.proofs.BreaksLaws.{missing-register}
-
--- a register is a variable
-register-exists : (ds : List Declaration) (v : ℕ) → registerAt ds v ≡ true → v < length ds
-register-exists ds v e = go (ltb v (length ds)) refl
-  where
-    go : (t : Bool) → ltb v (length ds) ≡ t → v < length ds
-    go true h = ltb-true v (length ds) h
-    go false h = absurd (false≢true (sym (missing-register ds v (ltb-false v (length ds) h)) ∙ e))
+use Rattle.verilog.proofs.BreaksLaws.{register-exists}
 
 module _ (ds : List Declaration) (all earlier : List Node) (n : Node) (passes : breaks ds all Rule.Reference earlier n ≡ false) where
   abbrev same : What → Node

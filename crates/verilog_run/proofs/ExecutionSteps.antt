@@ -1,7 +1,7 @@
 -- Laws of a run, in the form in which code asks them: one turn of a loop over the fields of a list, and each statement by its depth and its sort.
 use mathlib.Core.Path.{_≡_, refl, sym, ap, _∙_}
 use mathlib.Core.Bool.{true, false, cond}
-use mathlib.Core.List.{List, [], _∷_}
+use mathlib.Core.List.{List, []}
 use Prim.Native.Nat.{ℕ, zero, suc, _+_, _-_, _≤_}
 use native.Mathlib.Nat.{add-sub-cancel}
 use native.Mathlib.Numerals.{sub-one}
@@ -9,7 +9,6 @@ use native.Mathlib.Omega.{arith}
 use lib.Dec.{eqb}
 use lib.ListN.{length, take, drop, length-take, length-drop}
 use borrow.Author.Tests.{eq-eqb, ne-eqb}
-use types.Run.{miss}
 use Rattle.tagged.specs.Sorts.{onStatement, isSort}
 use Rattle.tagged.specs.Fields.{openOf, onField, fieldsAt}
 use Rattle.tagged.specs.declared.sorts.StatementSort.{StatementSort}
@@ -22,10 +21,10 @@ use Rattle.tagged.proofs.SortLaws.{is-itself}
 use Rattle.tagged.proofs.FieldLists.{field-within, field-more, field-none}
 use Rattle.verilog.specs.Reading.{expressionIn, afterFront}
 use Rattle.verilog.specs.Cycle.{State}
-use Rattle.verilog.proofs.FormLaws.{Among, butStatement, butBlock, butProcess, not-statement, is-missed}
+use Rattle.verilog.proofs.FormLaws.{Among, butStatement, butBlock, butProcess, not-statement, is-missed, butBranch, not-branch}
 use Rattle.verilog_run.specs.declared.evaluate.Number.{Number}
 use Rattle.verilog_run.specs.Numbers.{numberIn}
-use Rattle.verilog_run.specs.Execution.{Runner, runAll, itemValue, byBranch, frontBlock, runItems, statementRun, runStatement, runBlock, runItem, runProcess}
+use Rattle.verilog_run.specs.Execution.{Runner, runAll, itemValue, frontBlock, runItems, statementRun, runStatement, runBlock, runItem, runProcess}
 
 -- what follows the field at the front is no longer
 pub after-within : (l : List ℕ) → length (afterFront l) ≤ length l
@@ -42,23 +41,6 @@ module _ (run : Runner) (l : List ℕ) (state : State) (opened : Opened) (found 
 
   pub front-none : (x : ℕ) → opened ≡ Opened.Refused x → state ≡ frontBlock run l state
   front-none x e = rw (← found, e)
-
--- all but an item and a block, as a match counts the sorts
-abbrev butBranch : List ℕ
-butBranch = 0 ∷ 1 ∷ 2 ∷ 3 ∷ 6 ∷ 7 ∷ 8 ∷ 9 ∷ 10 ∷ []
-
-not-branch : {A : Type 0} (s : Sort) (item block other : A) → Among butBranch s → byBranch s item block other ≡ other
-not-branch Sort.Module item block other k = refl
-not-branch (Sort.Declaration d) item block other k = refl
-not-branch Sort.Process item block other k = refl
-not-branch (Sort.Statement s) item block other k = refl
-not-branch Sort.Item item block other k = absurd (miss butBranch 4 tt k)
-not-branch Sort.Block item block other k = absurd (miss butBranch 5 tt k)
-not-branch (Sort.Expression e) item block other k = refl
-not-branch (Sort.Cell c) item block other k = refl
-not-branch Sort.Drive item block other k = refl
-not-branch Sort.Netlist item block other k = refl
-not-branch Sort.Unknown item block other k = refl
 
 -- a loop over the fields of a list that has come to the index `at`: what the rest makes of the state so far is `last`, what the whole list makes of the first state
 module _ (l : List ℕ) (at : ℕ) (opened : Opened) (found : opened ≡ openOf 0 0 (take (length l - at) (drop at l))) where

@@ -14,7 +14,7 @@ use Rattle.tagged.specs.declared.sorts.StatementSort.{StatementSort}
 use Rattle.tagged.specs.declared.sorts.StatementSort.the-variants as StatementSort
 use Rattle.tagged.specs.declared.sorts.Sort.{Sort}
 use Rattle.tagged.specs.declared.sorts.Sort.the-variants as Sort
-use Rattle.verilog.specs.Reading.{frontBy, afterFront, expressionIn}
+use Rattle.verilog.specs.Reading.{frontBy, afterFront, expressionIn, byBranch}
 use Rattle.verilog.specs.Cycle.{State, held, changed, settled}
 use Rattle.verilog_run.specs.Numbers.{numberIn}
 
@@ -46,20 +46,6 @@ assignedBit widths d kind l state =
 -- the value of an item's constant
 abbrev pub itemValue : List ℕ → ℕ
 itemValue l = frontBy (λ t p. fourOf (drop 1 p)) 0 l
-
--- by what stands next in a case: an item, the default block, or what ends it
-abbrev pub byBranch : {A : Type 0} → Sort → A → A → A → A
-byBranch Sort.Item item block other = item
-byBranch Sort.Block item block other = block
-byBranch (Sort.Expression e) item block other = other
-byBranch Sort.Module item block other = other
-byBranch (Sort.Declaration d) item block other = other
-byBranch Sort.Process item block other = other
-byBranch (Sort.Statement s) item block other = other
-byBranch (Sort.Cell c) item block other = other
-byBranch Sort.Drive item block other = other
-byBranch Sort.Netlist item block other = other
-byBranch Sort.Unknown item block other = other
 
 -- the block at the front of a part, by `run`
 abbrev pub frontBlock : Runner → List ℕ → State → State

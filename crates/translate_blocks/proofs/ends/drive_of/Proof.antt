@@ -12,7 +12,7 @@ use Rattle.translate_blocks.proofs.ends.drive_of.Tie as tie
 returns : tie.Need-returns
 returns c =
     let given = c .before .before .before .before .before .before .args in
-    let first = c .before .before .before .first-at .ensures in
+    let first = c .before .before .before .first-of .ensures in
     let slot = c .before .before .drive-slot .ensures in
     let word = c .before .word-at .ensures in
     let operand = c .unpack .ensures in

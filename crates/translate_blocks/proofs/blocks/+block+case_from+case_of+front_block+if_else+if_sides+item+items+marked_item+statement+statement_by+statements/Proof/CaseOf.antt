@@ -5,7 +5,7 @@ use borrow.Author.Needs.{needs}
 use Prim.Native.Nat.{ℕ}
 use Rattle.translate_blocks.proofs.blocks.case_from.Reads as case-from
 use Rattle.translate_blocks.proofs.blocks.case_of.Reads as case-of
-use Rattle.translate_blocks.proofs.blocks.copy_words.Reads as copy-words-reads
+use Rattle.translate_blocks.proofs.packing.copy_words.Reads as copy-words-reads
 use Rattle.translate_blocks.proofs.blocks.front_words.Reads as front-words-reads
 use Rattle.translate_blocks.proofs.blocks.+block+case_from+case_of+front_block+if_else+if_sides+item+items+marked_item+statement+statement_by+statements.Lts-case_of as lts
 use Rattle.translate_blocks.proofs.blocks.+block+case_from+case_of+front_block+if_else+if_sides+item+items+marked_item+statement+statement_by+statements.Proof.Sizes.{case-from-below, case-of-at}

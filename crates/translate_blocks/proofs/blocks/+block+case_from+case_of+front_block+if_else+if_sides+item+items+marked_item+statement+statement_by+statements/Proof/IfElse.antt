@@ -6,7 +6,7 @@ use borrow.Author.Needs.{needs}
 use Prim.Native.Nat.{ℕ}
 use Rattle.translate_blocks.proofs.blocks.if_else.Reads as if-else
 use Rattle.translate_blocks.proofs.blocks.if_sides.Reads as if-sides
-use Rattle.translate_blocks.proofs.blocks.copy_words.Reads as copy-words-reads
+use Rattle.translate_blocks.proofs.packing.copy_words.Reads as copy-words-reads
 use Rattle.translate_blocks.proofs.blocks.+block+case_from+case_of+front_block+if_else+if_sides+item+items+marked_item+statement+statement_by+statements.Lts-if_else as lts
 use Rattle.translate_blocks.proofs.blocks.+block+case_from+case_of+front_block+if_else+if_sides+item+items+marked_item+statement+statement_by+statements.Proof.Sizes.{if-else-at, if-sides-below}
 

@@ -38,7 +38,7 @@ module _ (t : ℕ) where
   room-behind : (at-one : lts.After-after-front (calls t) (if-sides-at t) if-sides.Post) →
       let condition = at-one .before .before .before .expression .result in
       let args = start-of at-one .args in
-      Room (length (at-one .after-front .result .now) + 3) (args .count) (args .table .now) (args .slots .now) (args .words .now)
+      Room (length (at-one .after-front .result .now) + 3) (args .count) (args .original .now) (args .slots .now) (args .words .now)
       (condition .at) (condition .cells) (args .top)
   room-behind at-one =
       let at-condition = at-one .before .before .before in

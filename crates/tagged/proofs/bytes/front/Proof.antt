@@ -1,4 +1,4 @@
--- `translator::front` meets its contract: a part that ends before it is taken whole. Assumes nothing.
+-- `tagged::bytes::front` meets its contract: a part that ends before it is taken whole. Assumes nothing.
 use mathlib.Core.Path.{sym, ap}
 use native.Mathlib.Omega.{arith}
 use native.Mathlib.Nat.{sub-zero}
@@ -6,8 +6,8 @@ use lib.ListN.{take}
 use lib.Seq.{take-all}
 use Prim.Native.Nat.{ℕ}
 use borrow.Author.Needs.{needs}
-use Rattle.translator.proofs.front.Statement.{statement}
-use Rattle.translator.proofs.front.Tie as tie
+use Rattle.tagged.proofs.bytes.front.Statement.{statement}
+use Rattle.tagged.proofs.bytes.front.Tie as tie
 
 returns : tie.Need-returns
 returns c = ap (λ (n : ℕ). take n (c .before .before .args .part .now)) (sub-zero (c .before .before .args .end))
