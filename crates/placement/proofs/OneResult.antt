@@ -5,8 +5,6 @@ use mathlib.Core.List.{List}
 use Prim.Native.Nat.{ℕ}
 use lib.ListN.{length}
 use Rattle.tagged.specs.Answers.{replyOf, translationReply, answerOf, translationOf, Promise}
-use Rattle.tagged.specs.declared.answers.Answer.{Answer}
-use Rattle.tagged.specs.declared.answers.Translation.{Translation}
 use Rattle.tagged.specs.declared.answers.Reply.{Reply}
 use Rattle.tagged.proofs.AnswerLaws.{answer-back, translation-back, one-answer, coincide}
 use Rattle.netlist.specs.Run as netlist-run

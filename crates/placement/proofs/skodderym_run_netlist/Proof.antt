@@ -1,26 +1,14 @@
-use native.Mathlib.Omega.{arith}
 -- `placement::skodderym_run_netlist` meets its contract: it is the reply of the netlist's run, which wrote the row. Assumes nothing.
 use mathlib.Core.Path.{ap, _∙_}
 use Rattle.tagged.specs.Answers.{replyOf}
 use borrow.Author.Needs.{needs}
 use Rattle.placement.proofs.skodderym_run_netlist.Statement.{statement}
 use Rattle.placement.proofs.skodderym_run_netlist.Tie as tie
-use Rattle.placement.proofs.skodderym_run_netlist.Reads as reads
-use Rattle.placement.proofs.skodderym_run_netlist.Lts as lts
-use Rattle.netlist.proofs.run.Reads as run-reads
-use Rattle.tagged.proofs.answers.Answer.reply.Reads as reply-reads
-
-run-requires : tie.Need-run-requires
-run-requires c κs = search needs
-
-reply-requires : tie.Need-reply-requires
-reply-requires c κs = search needs
-
-same-length : tie.Need-same-length
-same-length c = search needs
 
 returns : tie.Need-returns
-returns c = record { answered = c .reply .ensures ∙ ap replyOf (c .before .before .before .run .ensures .answered); leaves = c .before .before .before .run .ensures .leaves }
+returns c =
+    let at-run = c .before .before .before in
+    record { answered = c .reply .ensures ∙ ap replyOf (at-run .run .ensures .answered); leaves = at-run .run .ensures .leaves }
 
 pub skodderym-run-netlist-spec : {M : Type 1} → statement M
-skodderym-run-netlist-spec = tie.close (tie.spec run-requires reply-requires same-length returns)
+skodderym-run-netlist-spec = tie.close (tie.spec (λ c κs. search needs) (λ c κs. search needs) (λ c. search needs) returns)

@@ -1,0 +1,2 @@
+-- Document 01, "Who calls it": the listing.
+pub mod Listing
