@@ -21,10 +21,12 @@ from skodderym_listing import listing  # noqa: E402
 from skodderym_text import TextError, assemble, disassemble  # noqa: E402
 
 EXAMPLES = HERE.parent / "examples"
-TEXTS = sorted(EXAMPLES.glob("*/*.text"))
-REFUSED = sorted(EXAMPLES.glob("refused/*.text")) + [
-    EXAMPLES / name / f"{name}.text"
-    for name in ("held_refused", "swap_refused")]
+NETLISTS = sorted(EXAMPLES.glob("*/*.netlist.text"))
+TEXTS = sorted(set(EXAMPLES.glob("*/*.text")) - set(NETLISTS))
+REFUSED = [
+    source for source in TEXTS
+    if source.with_suffix(".expected").exists()
+    or (source.parent / "expected").exists()]
 
 COUNTER = bytes.fromhex(
     "01 00 32 02 00 03 01 65 6E 03 00 06 04 00 00 00 00 6E 04 00 20 14 00 1D "
@@ -42,6 +44,24 @@ netlist
   cell c1 4 = mux en c0 n
   drive n = c1
 """
+# The cycles that docs/COURSE.md shows.
+COURSE_ROWS = (
+    ("held_sign", [1, 0, 0, 0], [1, 0, 1, 1]),
+    ("read_back", [0, 7], [1, 0]),
+    ("branches", [0, 7, 3], [0, 7, 7]),
+    ("branches", [1, 7, 3], [1, 1, 3]),
+    ("equal_items", [2, 9], [2, 1]),
+    ("never_wide", [255, 7, 0], [255, 7, 0]),
+    ("in_turn", [1, 2], [2, 2]),
+    ("stages", [5, 3, 1], [5, 5, 3]),
+    ("stages_turned", [5, 3, 1], [5, 5, 3]),
+    ("one_owner", [1, 0], [1, 1]),
+    ("both_signs", [0, 1, 2], [2, 2, 3]),
+    ("turns", [1, 3, 5], [1, 10, 5]),
+    ("turns", [0, 3, 5], [0, 6, 3]),
+    ("moving_state", [2], [3]),
+    ("sums", [1, 2], [2, 3]),
+    ("sums_turned", [1, 2], [2, 3]))
 TAGS = [0x01, 0x02, 0x03, 0x04, *range(0x10, 0x18), *range(0x20, 0x2B),
         *range(0x30, 0x3B), 0x40, 0x81, 0x99]
 DOUBTS = ("is it the file",)
@@ -370,9 +390,20 @@ class Expected(unittest.TestCase):
             with self.subTest(source.name):
                 data = example_bytes(source)
                 self.assertIsNone(answer_of(data))
+                if data[:1] == b"\x81":
+                    continue
                 netlist = second_opinion.translate(data)
                 self.assertIsNone(second_opinion.check_netlist(netlist))
                 self.assertEqual(assemble(disassemble(netlist)), netlist)
+
+    def test_netlists(self):
+        """The netlists that the proved program wrote are the same."""
+        self.assertEqual(len(NETLISTS), 6)
+        for source in NETLISTS:
+            with self.subTest(source.name):
+                module = source.with_suffix("").with_suffix(".bin")
+                netlist = second_opinion.translate(module.read_bytes())
+                self.assertEqual(disassemble(netlist), source.read_text())
 
     def test_whole_case(self):
         """The second opinion translates the counter as the rules do."""
@@ -382,10 +413,16 @@ class Expected(unittest.TestCase):
 class Behaviour(unittest.TestCase):
     """The examples do what their pages say."""
 
-    def cycle(self, name):
+    def cycle(self, name, folder=None):
         """The cycle of an example."""
-        source = EXAMPLES / name / f"{name}.text"
+        source = EXAMPLES / (folder or name) / f"{name}.text"
         return second_opinion.Cycle(example_bytes(source)).run
+
+    def test_course(self):
+        """The rows of docs/COURSE.md."""
+        for name, row, after in COURSE_ROWS:
+            with self.subTest(name):
+                self.assertEqual(self.cycle(name, "course")(row), after)
 
     def test_counter(self):
         """It counts, and goes round."""
@@ -406,6 +443,13 @@ class Behaviour(unittest.TestCase):
             keeps = 1 if stored else 0 if confirmed else held
             self.assertEqual(after, [stored, confirmed, keeps,
                                      int(not held and not stored)])
+
+    def test_held_lost(self):
+        """By the meaning of a cycle the refused module loses the flag."""
+        run = self.cycle("held_refused")
+        stored = run([1, 0, 0, 0])
+        self.assertEqual(stored, [1, 0, 0, 0])
+        self.assertEqual(run([0, 0] + stored[2:]), [0, 0, 0, 1])
 
     def test_slots(self):
         """From every row: a chosen slot had its log confirmed."""
