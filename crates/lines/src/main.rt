@@ -3,6 +3,7 @@ use libc::STDOUT_FILENO;
 use response::put_refusal;
 use tagged::answers::Answer;
 use tagged::bytes::front;
+use tagged::limits::ModuleFile;
 use verilog_check::check;
 
 // Writes what the check answers to a file.
@@ -19,6 +20,20 @@ fn line(name: &[u8], file: &[u8]) {
             io::write_all(STDOUT_FILENO, front(&text, size));
         }
     }
+}
+
+// The longest module, and a byte more: rule 1 passes the first, whose zeros rule 2 then refuses.
+fn longest() {
+    let mut file = [0u8; ModuleFile::MAX + 1];
+    file[0] = 0x01;
+    file[1] = 0x3F;
+    file[2] = 0xFD;
+    line(
+        b"16,384 bytes, zeros in a module",
+        front(&file, ModuleFile::MAX),
+    );
+    file[2] = 0xFE;
+    line(b"16,385 bytes, zeros in a module", &file);
 }
 
 fn main() {
@@ -74,4 +89,5 @@ fn main() {
         b"29 nots round a variable",
         b"\x01\x00\x6B\x03\x00\x06\x01\x00\x00\x00\x00\x72\x04\x00\x5F\x10\x00\x5C\x00\x24\x00\x58\x24\x00\x55\x24\x00\x52\x24\x00\x4F\x24\x00\x4C\x24\x00\x49\x24\x00\x46\x24\x00\x43\x24\x00\x40\x24\x00\x3D\x24\x00\x3A\x24\x00\x37\x24\x00\x34\x24\x00\x31\x24\x00\x2E\x24\x00\x2B\x24\x00\x28\x24\x00\x25\x24\x00\x22\x24\x00\x1F\x24\x00\x1C\x24\x00\x19\x24\x00\x16\x24\x00\x13\x24\x00\x10\x24\x00\x0D\x24\x00\x0A\x24\x00\x07\x24\x00\x04\x21\x00\x01\x00",
     );
+    longest();
 }

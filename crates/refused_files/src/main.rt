@@ -5,6 +5,8 @@ use tagged::answers::Answer;
 use tagged::answers::Rule;
 use tagged::answers::Translation;
 use tagged::bytes::front;
+use tagged::limits::NetlistFile;
+use translator::LARGEST_NETLIST;
 
 // Puts a file into a buffer, which is longer than every file of data/; how many bytes it has.
 fn load(name: &[u8], buffer: &mut [u8]) -> usize {
@@ -44,29 +46,29 @@ fn write_translation(name: &[u8], answer: Translation) {
 
 // A module is checked.
 fn module(name: &[u8]) {
-    let mut buffer = [0u8; 32769];
+    let mut buffer = [0u8; NetlistFile::MAX + 1];
     let size = load(name, &mut buffer);
     write_answer(name, verilog_check::check(front(&buffer, size)));
 }
 
 // A netlist is read.
 fn netlist(name: &[u8]) {
-    let mut buffer = [0u8; 32769];
+    let mut buffer = [0u8; NetlistFile::MAX + 1];
     let size = load(name, &mut buffer);
     write_answer(name, netlist::read(front(&buffer, size)));
 }
 
 // A module is translated into a buffer that is never too short.
 fn translated(name: &[u8]) {
-    let mut buffer = [0u8; 32769];
+    let mut buffer = [0u8; NetlistFile::MAX + 1];
     let size = load(name, &mut buffer);
-    let mut out = [0u8; 25219];
+    let mut out = [0u8; LARGEST_NETLIST];
     write_translation(name, translator::translate(front(&buffer, size), &mut out));
 }
 
 // A module is translated into a buffer of no bytes.
 fn without_room(name: &[u8]) {
-    let mut buffer = [0u8; 32769];
+    let mut buffer = [0u8; NetlistFile::MAX + 1];
     let size = load(name, &mut buffer);
     let mut out = [0u8; 0];
     write_translation(name, translator::translate(front(&buffer, size), &mut out));
@@ -74,7 +76,7 @@ fn without_room(name: &[u8]) {
 
 // A module of one variable is run from a row of three bytes.
 fn from_short_row(name: &[u8]) {
-    let mut buffer = [0u8; 32769];
+    let mut buffer = [0u8; NetlistFile::MAX + 1];
     let size = load(name, &mut buffer);
     let row = [0u8; 3];
     let mut next = [0u8; 4];

@@ -84,7 +84,7 @@ table =
     ∷ case (opening (openOf 7 5 (0x21 ∷ 255 ∷ 255 ∷ 1 ∷ []))) 7
     ∷ case (opening (openOf 7 5 (0x21 ∷ 0 ∷ 1 ∷ 9 ∷ []))) 34_000_001
     ∷ case (opening (openOf 7 5 (0x99 ∷ 0 ∷ 0 ∷ []))) 1_000_000
-    -- refusal 1: shorter than 3, the outer length not the rest, both limits
+    -- refusal 1: shorter than 3, the outer length not the rest; the limits are too long to compute here, and the program lines runs them
     ∷ case (answering (fileAnswer longestModule [])) 1000
     ∷ case (answering (fileAnswer longestModule (0x01 ∷ 0 ∷ []))) 1000
     ∷ case (answering (fileAnswer longestModule (0x01 ∷ 0 ∷ 0 ∷ []))) 0

@@ -30,6 +30,7 @@ use tagged::declarations::payload_at;
 use tagged::fields::Opened;
 use tagged::fields::open_field;
 use tagged::limits::Depth;
+use tagged::limits::Variables;
 use tagged::sorts::Kind;
 use tagged::sorts::Sort;
 use tagged::sorts::StatementSort;
@@ -246,7 +247,7 @@ fn if_else(
         (now (slots .entry)) (now (words .entry)) top (now (out .exit)) (r .at) (r .cells) (now (table .exit)) (now (slots .exit)) (now (words .exit)) ⌝ }
 {
     let size = table.len();
-    let mut other = [0u64; 128];
+    let mut other = [0u64; 2 * Variables::MAX];
     copy_words(table, &mut other);
     if_sides(
         part,
@@ -460,7 +461,7 @@ fn case_of(
         (now (slots .entry)) (now (words .entry)) top (now (out .exit)) (r .at) (r .cells) (now (table .exit)) (now (slots .exit)) (now (words .exit)) ⌝ }
 {
     let size = table.len();
-    let mut entry = [0u64; 128];
+    let mut entry = [0u64; 2 * Variables::MAX];
     copy_words(table, &mut entry);
     case_from(
         part,

@@ -16,6 +16,7 @@ use crate::packing::word_at;
 use netlist::Operand;
 use tagged::bytes::byte_at;
 use tagged::bytes::put_byte;
+use tagged::limits::Variables;
 
 // Logs an entry of a table, if it differs from the entry table's. The index past what is logged.
 fn log_one(slots: &mut [u8], words: &mut [u64], top: usize, slot: u8, old: u64, word: u64) -> usize
@@ -120,7 +121,7 @@ fn merge_mark(
     let start = mark_start(slots, past);
     let mark = past - 1;
     let number = (word_at(words, mark) % 4294967296) as u32;
-    let mut side = [0u64; 128];
+    let mut side = [0u64; 2 * Variables::MAX];
     copy_words(entry, &mut side);
     put_changes(&mut side, &slots[start..mark], &words[start..mark]);
     let count = entry.len();

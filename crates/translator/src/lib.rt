@@ -6,7 +6,7 @@ ghost use lib.ListN.{length};
 ghost use Rattle.tagged.specs.Answers.{Promise};
 ghost use Rattle.tagged.specs.declared.answers.Answer.the-variants as Answer;
 ghost use Rattle.verilog.specs.Answer.{moduleAnswer};
-ghost use Rattle.translate.specs.Answer.{translateAnswer, translateBuffer};
+ghost use Rattle.translate.specs.Answer.{translateAnswer, translateBuffer, largestNetlist};
 use crate::passes::measure_and_write;
 use tagged::answers::Answer;
 use tagged::answers::Translation;
@@ -17,6 +17,16 @@ use tagged::declarations::variable_table;
 use tagged::limits::Variables;
 use verilog_check::check;
 use verilog_check::survey::survey;
+
+// No netlist is longer, so a buffer of this length is never too short.
+pub const LARGEST_NETLIST: usize = 25219;
+
+// The constant of the code is that of the definitions.
+pub fn largest_netlist() -> usize
+    ensures { λ r. ⌜ r ≡ largestNetlist ⌝ }
+{
+    LARGEST_NETLIST
+}
 
 // The netlist of an accepted module: its parts and tables, and then both passes over them.
 fn translate_accepted(file: &[u8], out: &mut [u8]) -> Translation

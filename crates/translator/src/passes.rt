@@ -11,6 +11,7 @@ use tagged::answers::Rule;
 use tagged::answers::Translation;
 use tagged::limits::Cells;
 use tagged::limits::CellsMade;
+use tagged::limits::ModuleFile;
 use tagged::limits::Variables;
 use translate_blocks::blocks::processes;
 use translate_blocks::emit::Emission;
@@ -18,7 +19,7 @@ use translate_blocks::ends::put_drives;
 use translate_blocks::ends::start_table;
 
 // As many entries as the log of a case needs at most: one for every third byte of a file.
-const LOG: usize = 5462;
+const LOG: usize = ModuleFile::MAX / 3 + 1;
 
 // Writes the cells of the processes and the drives of the registers, from the table in which each variable is itself.
 fn put_rest(
