@@ -137,9 +137,6 @@ room-after {a} r t bound h =
 
 -- an expression in front of what follows it
 module _ (count d : ℕ) (l current table : List ℕ) (front : current ≡ take count table) where
-  current-same : (part : List ℕ) (n : ℕ) → translateExpression (map unpacked current) n (expressionIn d part) ≡ expressionAt count table n d part
-  current-same part n = rw front
-
   pub room-expression : {slots words out out₁ : List ℕ} {at n at₁ n₁ top : ℕ} → Room (length l + 3) count table slots words at n top →
       Emits out at n (translateExpression (map unpacked current) n (expressionIn d l) .cells) out₁ at₁ n₁ → (rest : List ℕ) → rest ≡ afterFront l →
       Room (length rest + 3) count table slots words at₁ n₁ top
