@@ -15,10 +15,17 @@ use Rattle.netlist.specs.declared.Operand.the-variants as Operand
 use Rattle.netlist.specs.declared.Cell.{Cell}
 use Rattle.translate_blocks.specs.Words.{Written, mergeWords}
 use Rattle.translate_blocks.specs.Writing.{Translator, behind, untouched, joinWords, writeItems, writeItem}
-use Rattle.translate_blocks.specs.Log.{changes, Changes, andChange, changesFrom, changesOf, putWords, patched, logEntries, Forward, onward, arrived, equalCell, markOf, forwardItems, mergeMark, backwardItems, closed, itemsByLoops}
+use Rattle.translate_blocks.specs.Log.{changes, Changes, andChange, changesFrom, changesOf, putWords, patched, logEntries, Forward, onward, arrived, equalCell, markOf, forwardItems, mergeMark, backwardItems}
 use Rattle.translate_blocks.proofs.SortBranches.{branch-related, branch-holds}
 use Rattle.translate_blocks.proofs.FieldSizes.{fields-within, fieldsSize}
 use Rattle.translate_blocks.proofs.Bounds.{item-bounded}
+
+-- both loops
+abbrev pub closed : List ℕ → Forward → ℕ → Written
+closed entry f n = behind (f .cells) (backwardItems entry (f .marks) (f .table) (n + length (f .cells)))
+
+abbrev pub itemsByLoops : (List ℕ → List ℕ → ℕ → Written) → Translator → Operand → List (Placed Field) → List ℕ → ℕ → Written
+itemsByLoops item block selector l table n = closed table (forwardItems item block selector l table n) n
 
 -- a slot and a word for each entry that differs
 

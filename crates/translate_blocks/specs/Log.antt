@@ -110,13 +110,6 @@ backwardItems entry (m ∷ l) table n =
     let rest : Written = backwardItems entry l table n in
     behind (rest .cells) (mergeMark entry m (rest .table) (n + length (rest .cells)))
 
--- both loops
-abbrev pub closed : List ℕ → Forward → ℕ → Written
-closed entry f n = behind (f .cells) (backwardItems entry (f .marks) (f .table) (n + length (f .cells)))
-
-abbrev pub itemsByLoops : (List ℕ → List ℕ → ℕ → Written) → Translator → Operand → List (Placed Field) → List ℕ → ℕ → Written
-itemsByLoops item block selector l table n = closed table (forwardItems item block selector l table n) n
-
 -- the log as the code keeps it, in two tables: each item's changes, and above them its mark: how many they are, and its equal cell's number
 unfoldable pub logSlots : List Mark → List ℕ
 logSlots [] = []

@@ -1,6 +1,6 @@
 -- Operands as the code's tables hold them: an operand in one word, and both operands of each variable in one table, all current ones before all pending ones.
 use mathlib.Core.Bool.{cond}
-use mathlib.Core.List.{List, [], _∷_, _++_, map}
+use mathlib.Core.List.{List, [], _∷_, map}
 use Prim.Native.Nat.{ℕ, _+_, _*_, _/_, _%_, _^_}
 use lib.Dec.{eqb}
 use lib.ListN.{take}
@@ -11,7 +11,6 @@ use Rattle.netlist.specs.declared.Operand.{Operand}
 use Rattle.netlist.specs.declared.Operand.the-variants as Operand
 use Rattle.netlist.specs.declared.Cell.{Cell}
 use Rattle.netlist.specs.declared.Cell.the-variants as Cell
-use Rattle.translate.specs.Tables.{Tables}
 
 -- kind, width and number, as their bytes stand in a file
 abbrev pub wordOf : ℕ → ℕ → ℕ → ℕ
@@ -28,10 +27,7 @@ unpacked word =
     cond (eqb (word / 2 ^ 32 / 256) 0) (Operand.Constant (word / 2 ^ 32 % 256) (word % 2 ^ 32))
     (cond (eqb (word / 2 ^ 32 / 256) 1) (Operand.Variable (word / 2 ^ 32 % 256) (word % 2 ^ 32)) (Operand.Cell (word / 2 ^ 32 % 256) (word % 2 ^ 32)))
 
--- a table of so many variables: the current operand of variable v at v, the pending one as far behind the current ones
-abbrev pub tableWords : Tables → List ℕ
-tableWords t = map packed (t .current) ++ map packed (t .pending)
-
+-- where a table of so many variables has an operand: the current one of variable v at v, the pending one as far behind the current ones
 abbrev pub slotOf : ℕ → Kind → ℕ → ℕ
 slotOf count Kind.Blocking v = v
 slotOf count Kind.NonBlocking v = count + v

@@ -16,11 +16,12 @@ use Rattle.netlist.specs.declared.Drive.{Drive}
 use Rattle.verilog.specs.Tree.{Module}
 use Rattle.verilog.specs.Cycle.{delaysAny}
 use Rattle.translate.specs.Tables.{Tables, operandAt}
-use Rattle.translate_blocks.specs.Words.{unpacked, tableWords}
+use Rattle.translate_blocks.specs.Words.{unpacked}
 use Rattle.translate.specs.Translation.{drivesOf}
 use Rattle.translate_blocks.specs.Ends.{driveSlot, markedDrive, drivesFrom, drivesBy}
 use Rattle.translate.proofs.FittingTables.{FitsTables}
 use Rattle.translator.proofs.WordTables.{slot-held}
+use Rattle.translator.proofs.MergedWords.{tableWords}
 
 -- over the words of tables, and first assignments that tell which variables are assigned by non-blocking, these are the specified drives
 module _ (m : Module) {count : ℕ} {t : Tables} (fits : FitsTables count t) (few : count ≤ mostVariables) (firsts : List ℕ)

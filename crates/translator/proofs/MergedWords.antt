@@ -9,8 +9,12 @@ use lib.ListN.{length, length-map}
 use Rattle.netlist.specs.Fits.{FitsOperand, Every}
 use Rattle.netlist.specs.declared.Operand.{Operand}
 use Rattle.translate.specs.Tables.{Tables, sameOperand, Merged, kept, muxed, merge, Translated, mergeTables}
-use Rattle.translate_blocks.specs.Words.{packed, tableWords, Written, sameWord, muxWord, mergeWords}
+use Rattle.translate_blocks.specs.Words.{packed, Written, sameWord, muxWord, mergeWords}
 use Rattle.translate_blocks.proofs.PackingLaws.{unpacked-packed, same-packed}
+
+-- the words of tables of operands: the current ones, then the pending ones
+abbrev pub tableWords : Tables → List ℕ
+tableWords t = map packed (t .current) ++ map packed (t .pending)
 
 -- what a merge of operands gives, and what a part of a module adds, their operands as words
 abbrev pub mergedWords : Merged → Written

@@ -40,11 +40,11 @@ use Rattle.translate.specs.Translation.{translateAll, translatedModule, netlist
 use Rattle.translate.specs.Answer.{netlistOfFile, translatedBytes, cellCount, afterCheck, translateAnswer, bufferAfter, translateBuffer}
 use Rattle.translate.proofs.FittingTables.{FitsTables, start-fits}
 use Rattle.translate.proofs.CellBounds.{FewOperands, all-cells}
-use Rattle.translate_blocks.specs.Words.{tableWords, Written}
+use Rattle.translate_blocks.specs.Words.{Written}
 use Rattle.translate_blocks.specs.Writing.{writeProcesses}
 use Rattle.translate_blocks.specs.Ends.{drivesBy}
 use Rattle.translator.specs.Passes.{passedWords, passedCells, restOf, wholeOf, lengthOf, passAnswer, passBuffer}
-use Rattle.translator.proofs.MergedWords.{translatedWords}
+use Rattle.translator.proofs.MergedWords.{translatedWords, tableWords}
 use Rattle.translator.proofs.JoinedWords.{Gives}
 use Rattle.translator.proofs.WrittenTrees.{processes-written}
 use Rattle.translator.proofs.StartWords.{start-words}

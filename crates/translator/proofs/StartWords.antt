@@ -5,8 +5,9 @@ use Prim.Native.Nat.{ℕ, _+_}
 use Rattle.tagged.specs.Declarations.{Declaration, widthOf}
 use Rattle.netlist.specs.declared.Operand.the-variants as Operand
 use Rattle.translate.specs.Tables.{themselves}
-use Rattle.translate_blocks.specs.Words.{packed, tableWords}
+use Rattle.translate_blocks.specs.Words.{packed}
 use Rattle.translate_blocks.specs.Ends.{startFrom, startWords}
+use Rattle.translator.proofs.MergedWords.{tableWords}
 
 -- these are the words of the variables themselves
 start-from : (v : ℕ) (ds : List Declaration) → startFrom v (map widthOf ds) ≡ map packed (themselves v ds)

@@ -12,9 +12,10 @@ use Rattle.netlist.specs.Fits.{FitsOperand, Every}
 use Rattle.netlist.specs.declared.Operand.{Operand}
 use Rattle.netlist.specs.declared.Operand.the-variants as Operand
 use Rattle.translate.specs.Tables.{Tables, operandAt, heldOperand, replaced}
-use Rattle.translate_blocks.specs.Words.{packed, unpacked, tableWords, slotOf, currentOperands}
+use Rattle.translate_blocks.specs.Words.{packed, unpacked, slotOf, currentOperands}
 use Rattle.translate_blocks.proofs.PackingLaws.{unpacked-packed}
 use Rattle.translate.proofs.FittingTables.{FitsTables, held-fits}
+use Rattle.translator.proofs.MergedWords.{tableWords}
 
 all-back : (l : List Operand) → Every FitsOperand l → map unpacked (map packed l) ≡ l
 all-back [] f = refl

@@ -8,11 +8,12 @@ use Rattle.tagged.specs.Fields.{fieldBytes, Placed, Field, readFrom, fieldsAt}
 use Rattle.tagged.specs.declared.sorts.Sort.{Sort}
 use Rattle.verilog.proofs.WrittenFields.{fields-field}
 use Rattle.translate.specs.Tables.{Tables, Translated}
-use Rattle.translate_blocks.specs.Words.{tableWords, Written}
+use Rattle.translate_blocks.specs.Words.{Written}
 use Rattle.translate.specs.Translation.{after}
 use Rattle.translate_blocks.specs.Writing.{Translator, behind, writeAll}
 use Rattle.translate.proofs.FittingTables.{FitsTables}
 use Rattle.translator.proofs.JoinedWords.{Gives, gives-by, behind-gives}
+use Rattle.translator.proofs.MergedWords.{tableWords}
 
 -- these bytes are one field, which the code translates so
 pub record Leads (count : ℕ) (translate : Translator) (bytes table : List ℕ) (n : ℕ) (t : Translated) : Type 0 where

@@ -25,12 +25,13 @@ use Rattle.verilog.proofs.FrontLaws.{stands-after}
 use Rattle.verilog.proofs.ExpressionBytes.{four-read, expression-stands, expression-read}
 use Rattle.verilog.proofs.WrittenFields.{front-field, fields-field, constantBytes, front-constant, after-constant}
 use Rattle.translate.specs.Tables.{Tables, heldOperand, Translated}
-use Rattle.translate_blocks.specs.Words.{packed, tableWords, slotOf, Written}
+use Rattle.translate_blocks.specs.Words.{packed, slotOf, Written}
 use Rattle.translate.specs.Translation.{Emitted, translateExpression, after, joined, translateStatement, translateBlock}
 use Rattle.translate_blocks.specs.Writing.{expressionAt, behind, untouched, writeAll, writeAssign, writeAssignBit, joinWords, itemOperand, writeItems, writeFront, writeIf, writeCase, writeStatement, writeBlock, writeItem}
 use Rattle.translate.proofs.FittingTables.{FitsTables, held-fits, replaced-fits, expression-fits, last-number}
 use Rattle.translator.proofs.WordTables.{current-back, slot-held, slot-replaced}
 use Rattle.translator.proofs.JoinedWords.{Gives, gives-by, behind-gives, joined-gives}
+use Rattle.translator.proofs.MergedWords.{tableWords}
 
 -- a statement by the expression in its payload
 module _ {count : ℕ} {t : Tables} (f : FitsTables count t) (n : ℕ) (e : Expression) (fits : FitsExpression e)

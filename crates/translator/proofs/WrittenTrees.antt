@@ -26,7 +26,6 @@ use Rattle.verilog.proofs.ExpressionBytes.{payload-short}
 use Rattle.verilog.proofs.WrittenFields.{after-field, constantBytes}
 use Rattle.verilog.proofs.Typed.{TypedStatement, assign-typed, assignBit-typed, ifElse-typed, case-typed, TypedBlock, end-typed, then-typed, TypedItems, default-typed, item-typed, TypedAll, none-typed, more-typed}
 use Rattle.translate.specs.Tables.{Tables, Translated}
-use Rattle.translate_blocks.specs.Words.{tableWords}
 use Rattle.translate.specs.Translation.{Emitted, translateExpression, joined, translateStatement, translateBlock, translateItems, translateAll}
 use Rattle.translate_blocks.specs.Writing.{writeAll, writeItems, writeFront, writeStatement, writeBlock, writeItem, writeProcess, writeProcesses}
 use Rattle.translate.proofs.FittingTables.{FitsTables}
@@ -34,6 +33,7 @@ use Rattle.translator.proofs.JoinedWords.{Gives, gives-by, after-number
 use Rattle.translator.proofs.WrittenLists.{Leads, leads-on, none-gives}
 use Rattle.translator.proofs.WrittenParts.{assign-gives, assignBit-gives, if-gives, case-gives, block-gives, front-block-gives, last-block-gives, item-gives, default-gives}
 use Rattle.verilog.proofs.BreaksLaws.{register-exists}
+use Rattle.translator.proofs.MergedWords.{tableWords}
 
 module _ (ds : List Declaration) (count : ℕ) (counted : length ds ≡ count) where
   register-there : (v : ℕ) → registerAt ds v ≡ true → v < count
