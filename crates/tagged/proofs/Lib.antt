@@ -16,6 +16,7 @@ pub mod TestLaws
 pub mod RefusalLaws
 pub mod FileLaws
 pub mod FoundLaws
+pub mod LowerLaws
 pub mod PlaceLaws
 pub mod PassLaws
 pub mod RiseLaws

@@ -1,7 +1,10 @@
 -- Refusals in the order they are looked for: number k is given only if no lower number holds in the whole file, with the first place.
-use mathlib.Core.Bool.{Bool}
+use mathlib.Core.Bool.{Bool, cond}
 use mathlib.Core.List.{List, [], _∷_, _++_}
+use Prim.Native.Nat.{ℕ}
+use lib.Dec.{ltb}
 use Rattle.tagged.specs.Choice.{choose}
+use Rattle.tagged.specs.Answers.{numberOf}
 use Rattle.tagged.specs.Fields.{Placed}
 use Rattle.tagged.specs.declared.answers.Rule.{Rule}
 use Rattle.tagged.specs.declared.answers.Rule.the-variants as Rule
@@ -23,6 +26,10 @@ abbrev pub orElse : Found → Found → Found
 orElse (Found.At place) other = Found.At place
 orElse Found.Nowhere other = other
 
+-- this place, if the test holds
+abbrev pub foundIf : Bool → ℕ → Found
+foundIf broken place = cond broken (Found.At place) Found.Nowhere
+
 -- the refusal by this rule where it has a place, or else the other answer
 abbrev pub refusedAt : Rule → Found → Answer → Answer
 refusedAt rule (Found.At place) other = Answer.Refused rule place
@@ -42,3 +49,10 @@ afterForm (Step.Refused place) other = Answer.Refused Rule.Form place
 abbrev pub afterAnswer : Answer → Answer → Answer
 afterAnswer Answer.Accepted other = other
 afterAnswer (Answer.Refused rule place) other = Answer.Refused rule place
+
+-- of two answers the refusal with the lower number, and of two with the same number the first
+abbrev pub lowerRefusal : Answer → Answer → Answer
+lowerRefusal Answer.Accepted other = other
+lowerRefusal (Answer.Refused rule place) Answer.Accepted = Answer.Refused rule place
+lowerRefusal (Answer.Refused rule place) (Answer.Refused other later) =
+    cond (ltb (numberOf other) (numberOf rule)) (Answer.Refused other later) (Answer.Refused rule place)

@@ -1,6 +1,7 @@
 // Answers: acceptance, or one refusal by its rule and place; and the struct in which C gets them.
 ghost use mathlib.Core.Path.{_≡_};
 ghost use Rattle.tagged.specs.Answers.{numberOf, replyOf, translationReply};
+ghost use Rattle.tagged.specs.Refusals.{lowerRefusal};
 
 // What a refusal is given for, in the order in which document 01 looks for them.
 pub enum Rule {
@@ -73,6 +74,25 @@ impl Rule {
 }
 
 impl Answer {
+    // Of this answer and another the refusal with the lower number; of two with the same number this one.
+    pub fn or_lower(self, other: Answer) -> Answer
+        ensures { λ r. ⌜ r ≡ lowerRefusal self other ⌝ }
+    {
+        match self {
+            Answer::Accepted => other,
+            Answer::Refused(rule, place) => match other {
+                Answer::Accepted => Answer::Refused(rule, place),
+                Answer::Refused(lower, elsewhere) => {
+                    if lower.number() < rule.number() {
+                        Answer::Refused(lower, elsewhere)
+                    } else {
+                        Answer::Refused(rule, place)
+                    }
+                }
+            },
+        }
+    }
+
     // The answer for C.
     pub fn reply(self) -> Reply
         ensures { λ r. ⌜ r ≡ replyOf self ⌝ }
