@@ -1,7 +1,7 @@
 -- The answer that the code gives for a file to which refusals 1 and 2 do not apply is the tree's: its parts are the declarations and the processes,
--- the walk over the bytes finds the tree's fields, and by the tables each rule has its own first place, as long as no lower one has any.
+-- the walk over the bytes comes to the tree's fields, and by the tables each rule has its own first place, as long as no lower one has any.
 use mathlib.Core.Path.{_≡_, refl, sym, ap, ap₂, _∙_}
-use mathlib.Core.Bool.{false}
+use mathlib.Core.Bool.{Bool, false}
 use mathlib.Core.List.{List, [], _∷_, map}
 use Prim.Native.Nat.{ℕ, _+_, _≤_, _<_}
 use native.Mathlib.Omega.{arith}
@@ -11,7 +11,8 @@ use Rattle.tagged.specs.Limits.{longestModule, mostVariables}
 use Rattle.tagged.specs.Bytes.{AllBytes}
 use Rattle.tagged.specs.Fields.{allBytesOf, fieldsAt, passedBytes, unplaced, placedBy}
 use Rattle.tagged.specs.Files.{fileAnswer}
-use Rattle.tagged.specs.Refusals.{firstBroken, orElse, firstRefusal}
+use Rattle.tagged.specs.Refusals.{firstBroken, orElse, foundIf, firstRefusal, lowerRefusal, afterAnswer}
+use Rattle.tagged.specs.Answers.{numberOf}
 use Rattle.tagged.specs.Declarations.{Declaration, widthOf, declarationBytes, declarationBreaks, declarationBroken, declarationsStep, declarationsAt, declarationsIn, variableTable}
 use Rattle.tagged.specs.declared.declarations.VariableTable.{VariableTable}
 use Rattle.tagged.specs.declared.answers.Rule.{Rule}
@@ -22,7 +23,8 @@ use Rattle.tagged.specs.declared.answers.Answer.{Answer}
 use Rattle.tagged.specs.declared.answers.Answer.the-variants as Answer
 use Rattle.tagged.specs.declared.fields.Step.the-variants as Step
 use Rattle.tagged.proofs.FileLaws.{file-fits}
-use Rattle.tagged.proofs.RefusalLaws.{Agrees, agree-none, agree-more, same-refusal, passes-nowhere}
+use Rattle.tagged.proofs.RefusalLaws.{Agrees, agree-none, agree-more, same-refusal, passes-nowhere, Rising, order-rising, NoneBroken, none, more, none-accepted, refusal-append}
+use Rattle.tagged.proofs.LowerLaws.{refusal-both, refusal-same}
 use Rattle.tagged.proofs.FoundLaws.{or-nowhere}
 use Rattle.tagged.proofs.DeclarationSizes.{variables-few}
 use Rattle.tagged.proofs.TableLaws.{widths-known, marks-known, markOf}
@@ -37,11 +39,11 @@ use Rattle.verilog.proofs.FormFits.{form-fits}
 use Rattle.verilog.proofs.DeclarationsKept.{declarations-kept}
 use Rattle.verilog.proofs.ModuleBytes.{PayloadRead, form-read}
 use Rattle.verilog_check.specs.Tables.{variablesOf}
-use Rattle.verilog_check.specs.Judged.{judged, judgedIn}
+use Rattle.verilog_check.specs.Judged.{judged, judgedIn, fieldAnswer}
 use Rattle.verilog_check.specs.Walk.{walkProcesses}
 use Rattle.verilog_check.specs.Survey.{surveyFrom}
-use Rattle.verilog_check.specs.Answers.{ruleFound}
 use Rattle.verilog_check.proofs.Firsts.{firstIn}
+use Rattle.verilog_check.proofs.WalkFields.{lowest-first}
 use Rattle.verilog_check.proofs.WalkLaws.{walk-processes}
 use Rattle.verilog_check.proofs.SurveyLaws.{survey-firsts}
 use Rattle.verilog_check.proofs.TableTests.{of-reference, of-widths, of-bit-number}
@@ -67,6 +69,46 @@ like-selector widths marks firsts Rule.ReadElsewhere p e w = refl
 like-selector widths marks firsts Rule.Cells p e w = refl
 like-selector widths marks firsts Rule.Buffer p e w = refl
 like-selector widths marks firsts Rule.Row p e w = refl
+
+-- so for the answer
+like-answer : (widths marks firsts : List ℕ) (p : ℕ) (e : Expression) (w at : ℕ) →
+    fieldAnswer widths marks firsts p (itemOf e w) at ≡ fieldAnswer widths marks firsts p (itemOf (constant (expressionWidth (variablesOf widths) e) 0) w) at
+like-answer widths marks firsts p e w at =
+    refusal-same _ _ (λ rule. ap (λ (broken : Bool). foundIf broken at) (like-selector widths marks firsts rule p e w)) moduleRules
+
+-- the rules of document 01 are looked for in rising order
+in-order : Rising 0 moduleRules
+unfolding numberOf
+in-order = order-rising 0 moduleRules refl
+
+-- those that a declaration can break
+abbrev declarationRules : List Rule
+declarationRules = Rule.Value ∷ Rule.Name ∷ Rule.Count ∷ []
+
+-- no declaration breaks a later one
+declared-first : (base : ℕ) (ds : List Declaration) →
+    firstRefusal (λ rule. declarationBroken rule base ds) declarationRules ≡ firstRefusal (λ rule. declarationBroken rule base ds) moduleRules
+unfolding declarationBreaks
+declared-first base ds =
+    sym (refusal-append broken declarationRules later ∙ ap (afterAnswer (firstRefusal broken declarationRules)) (none-accepted broken none-later) ∙ after-accepted _)
+  where
+    broken : Rule → Found
+    broken rule = declarationBroken rule base ds
+
+    later : List Rule
+    later = Rule.Reference ∷ Rule.Widths ∷ Rule.BitNumber ∷ Rule.BothKinds ∷ Rule.TwoProcesses ∷ Rule.ReadElsewhere ∷ []
+
+    never : (rule : Rule) → ((earlier : List Declaration) (d : Declaration) → declarationBreaks rule earlier d ≡ false) → broken rule ≡ Found.Nowhere
+    never rule fails = passes-nowhere (declarationBreaks rule) [] (placedBy declarationBytes base ds) (λ before p d s. fails before d)
+
+    none-later : NoneBroken broken later
+    none-later =
+        more (never Rule.Reference (λ earlier d. refl)) (more (never Rule.Widths (λ earlier d. refl)) (more (never Rule.BitNumber (λ earlier d. refl))
+        (more (never Rule.BothKinds (λ earlier d. refl)) (more (never Rule.TwoProcesses (λ earlier d. refl)) (more (never Rule.ReadElsewhere (λ earlier d. refl)) none)))))
+
+    after-accepted : (a : Answer) → afterAnswer a Answer.Accepted ≡ a
+    after-accepted Answer.Accepted = refl
+    after-accepted (Answer.Refused rule place) = refl
 
 -- the parts of a file
 module _ (file : List ℕ) (bytes : AllBytes file) (accepted : fileAnswer longestModule file ≡ Answer.Accepted) (formed : moduleForm file ≡ Step.Past (length file))
@@ -111,21 +153,28 @@ module _ (file : List ℕ) (bytes : AllBytes file) (accepted : fileAnswer longes
     pub list-long : 3 + taken + length list ≤ 16384
     list-long = omega (arith, taken-is, ap length list-is, whole-length, ap length part, payload-long)
 
-    -- what the code looks for, by any tables
+    -- what the code finds, by any tables
     module _ (widths marks firsts : List ℕ) where
-      declared-place : (rule : Rule) → firstBroken (declarationBreaks rule) [] (declarationsAt 3 payload) ≡ declarationBroken rule 3 (moduleIn file .declarations)
-      declared-place rule = ap (firstBroken (declarationBreaks rule) []) (ap (declarationsAt 3) part ∙ read .places)
+      -- the first place of a rule
+      abbrev looked : Rule → Found
+      looked rule = orElse (declarationBroken rule 3 (m .declarations)) (foundBy widths marks firsts 3 m rule)
 
-      walked : (rule : Rule) → walkProcesses (judgedIn widths marks firsts rule) (expressionWidth (variablesOf widths)) 0 (fieldsAt (3 + taken) list) ≡ foundBy widths marks firsts 3 m rule
-      walked rule =
-          ap₂ (λ (base : ℕ) (l : List ℕ). walkProcesses (judgedIn widths marks firsts rule) (expressionWidth (variablesOf widths)) 0 (fieldsAt base l))
+      declared-answer : firstRefusal (λ rule. firstBroken (declarationBreaks rule) [] (declarationsAt 3 payload)) declarationRules
+          ≡ firstRefusal (λ rule. declarationBroken rule 3 (m .declarations)) moduleRules
+      declared-answer =
+          refusal-same _ _ (λ rule. ap (firstBroken (declarationBreaks rule) []) (ap (declarationsAt 3) part ∙ read .places)) declarationRules ∙ declared-first 3 (m .declarations)
+
+      walked : walkProcesses (fieldAnswer widths marks firsts) (expressionWidth (variablesOf widths)) 0 (fieldsAt (3 + taken) list) ≡ firstRefusal (foundBy widths marks firsts 3 m) moduleRules
+      walked =
+          ap₂ (λ (base : ℕ) (l : List ℕ). walkProcesses (fieldAnswer widths marks firsts) (expressionWidth (variablesOf widths)) 0 (fieldsAt base l))
           (ap (λ (k : ℕ). 3 + k) taken-is) list-is
-          ∙ walk-processes (judgedIn widths marks firsts rule) (expressionWidth (variablesOf widths)) (like-selector widths marks firsts rule) (afterDeclared 3 m) (m .processes)
+          ∙ walk-processes (fieldAnswer widths marks firsts) (expressionWidth (variablesOf widths)) (like-answer widths marks firsts) (afterDeclared 3 m) (m .processes)
           (tree-fits .processes) processes-deep (omega (arith, list-long, ap length list-is))
+          ∙ lowest-first (judged widths marks firsts) in-order (processFields 3 m)
 
-      found : (rule : Rule) → ruleFound widths marks firsts payload list (3 + taken) rule ≡ orElse (declarationBroken rule 3 (m .declarations)) (foundBy widths marks firsts 3 m rule)
-      unfolding ruleFound
-      found rule = ap₂ orElse (declared-place rule) (walked rule)
+      found : lowerRefusal (firstRefusal (λ rule. firstBroken (declarationBreaks rule) [] (declarationsAt 3 payload)) declarationRules)
+          (walkProcesses (fieldAnswer widths marks firsts) (expressionWidth (variablesOf widths)) 0 (fieldsAt (3 + taken) list)) ≡ firstRefusal looked moduleRules
+      found = ap₂ lowerRefusal declared-answer walked ∙ sym (refusal-both (λ rule. declarationBroken rule 3 (m .declarations)) (foundBy widths marks firsts 3 m) in-order)
 
     -- the first assignments that the code finds
     module _ (zeros : List ℕ) (room : length zeros ≡ mostVariables) (none : (v : ℕ) → getD zeros v 0 ≡ 0) (firsts : List ℕ)
@@ -154,20 +203,16 @@ module _ (file : List ℕ) (bytes : AllBytes file) (accepted : fileAnswer longes
       abbrev marks : List ℕ
       marks = take told (table .registers)
 
-      abbrev looked : Rule → Found
-      looked = ruleFound widths marks firsts payload list (3 + taken)
-
       -- a rule that no declaration breaks is looked for among the processes
       among-processes : (rule : Rule) → ((earlier : List Declaration) (d : Declaration) → declarationBreaks rule earlier d ≡ false) →
-          looked rule ≡ foundBy widths marks firsts 3 m rule
+          looked widths marks firsts rule ≡ foundBy widths marks firsts 3 m rule
       among-processes rule never =
-          found widths marks firsts rule
-          ∙ ap (λ (f : Found). orElse f (foundBy widths marks firsts 3 m rule))
+          ap (λ (f : Found). orElse f (foundBy widths marks firsts 3 m rule))
           (passes-nowhere (declarationBreaks rule) [] (placedBy declarationBytes 3 (m .declarations)) (λ before p d s. never before d))
 
       -- rules 9 to 11, after rule 6
       late : length (m .declarations) ≤ mostVariables → moduleBroken 3 m Rule.Reference ≡ Found.Nowhere →
-          Agrees (moduleBroken 3 m) looked (Rule.BothKinds ∷ Rule.TwoProcesses ∷ Rule.ReadElsewhere ∷ [])
+          Agrees (moduleBroken 3 m) (looked widths marks firsts) (Rule.BothKinds ∷ Rule.TwoProcesses ∷ Rule.ReadElsewhere ∷ [])
       unfolding declarationBreaks
       late few existing =
           agree-more (assignments-found 3 m widths marks firsts known few existing of-both-kinds ∙ sym (among-processes Rule.BothKinds (λ earlier d. refl)))
@@ -176,7 +221,7 @@ module _ (file : List ℕ) (bytes : AllBytes file) (accepted : fileAnswer longes
           (λ reads. agree-none)))
 
       -- rules 6 to 8, after rule 5
-      middle : length (m .declarations) ≤ mostVariables → Agrees (moduleBroken 3 m) looked
+      middle : length (m .declarations) ≤ mostVariables → Agrees (moduleBroken 3 m) (looked widths marks firsts)
           (Rule.Reference ∷ Rule.Widths ∷ Rule.BitNumber ∷ Rule.BothKinds ∷ Rule.TwoProcesses ∷ Rule.ReadElsewhere ∷ [])
       unfolding declarationBreaks
       middle few =
@@ -188,20 +233,24 @@ module _ (file : List ℕ) (bytes : AllBytes file) (accepted : fileAnswer longes
           (λ inside. late few existing)))
 
       -- rule 4 is looked for among the declarations; no field of a process breaks it
-      named : moduleBroken 3 m Rule.Name ≡ looked Rule.Name
+      named : moduleBroken 3 m Rule.Name ≡ looked widths marks firsts Rule.Name
       unfolding judged
       named =
-          name-found 3 m ∙ sym (or-nowhere (declarationBroken Rule.Name 3 (m .declarations)))
-          ∙ sym (found widths marks firsts Rule.Name
-          ∙ ap (orElse (declarationBroken Rule.Name 3 (m .declarations))) (passes-nowhere (λ earlier n. judged widths marks firsts Rule.Name n) [] (processFields 3 m) (λ before p n s. refl)))
+          name-found 3 m
+          ∙ sym (ap (orElse (declarationBroken Rule.Name 3 (m .declarations))) (passes-nowhere (λ earlier n. judged widths marks firsts Rule.Name n) [] (processFields 3 m) (λ before p n s. refl))
+          ∙ or-nowhere (declarationBroken Rule.Name 3 (m .declarations)))
 
-      all-agree : Agrees (moduleBroken 3 m) looked moduleRules
+      all-agree : Agrees (moduleBroken 3 m) (looked widths marks firsts) moduleRules
       all-agree =
-          agree-more (value-found 3 m widths marks firsts ∙ sym (found widths marks firsts Rule.Value))
+          agree-more (value-found 3 m widths marks firsts)
           (λ values. agree-more named
-          (λ names. agree-more (count-found 3 m widths marks firsts ∙ sym (found widths marks firsts Rule.Count))
+          (λ names. agree-more (count-found 3 m widths marks firsts)
           (λ counts. middle (variables-few 3 (m .declarations) (declarations-kept m 3 Rule.Count counts)))))
 
-      pub answered : (answer : Answer) → answer ≡ firstRefusal looked moduleRules → answer ≡ treeAnswer 3 (moduleIn file)
+      pub answered : (declared walked answer : Answer) →
+          declared ≡ firstRefusal (λ rule. firstBroken (declarationBreaks rule) [] (declarationsAt 3 payload)) declarationRules →
+          walked ≡ walkProcesses (fieldAnswer widths marks firsts) (expressionWidth (variablesOf widths)) 0 (fieldsAt (3 + taken) list) →
+          answer ≡ lowerRefusal declared walked → answer ≡ treeAnswer 3 (moduleIn file)
       unfolding treeAnswer
-      answered answer e = e ∙ sym (same-refusal all-agree)
+      answered declared walked answer of-declarations of-processes joined =
+          joined ∙ ap₂ lowerRefusal of-declarations of-processes ∙ found widths marks firsts ∙ sym (same-refusal all-agree)

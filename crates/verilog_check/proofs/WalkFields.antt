@@ -1,77 +1,77 @@
--- What the walks over trees have in common: the first broken field where no field asks for earlier ones, and the walk over fields that were written, one by one.
+-- What the walks over trees have in common: what a list of fields is refused for where none asks for earlier ones, and the walk over fields that were written, one by one.
 use mathlib.Core.Path.{_≡_, refl, sym, ap, _∙_}
-use mathlib.Core.Bool.{Bool, true, false}
+use mathlib.Core.Bool.{Bool}
 use mathlib.Core.List.{List, [], _∷_, _++_, append-nil}
 use Prim.Native.Nat.{ℕ, _+_, _<_}
 use lib.ListN.{length}
-use Rattle.tagged.specs.Choice.{choose}
 use Rattle.tagged.specs.Sorts.{tagOf}
-use Rattle.tagged.specs.Fields.{Placed, unplaced, fieldBytes, fieldsAt, readFrom}
-use Rattle.tagged.specs.Refusals.{firstBroken, orElse}
+use Rattle.tagged.specs.Fields.{Placed, fieldBytes, fieldsAt, readFrom}
+use Rattle.tagged.specs.Refusals.{firstBroken, foundIf, firstRefusal, lowerRefusal}
 use Rattle.tagged.specs.declared.sorts.Sort.{Sort}
-use Rattle.tagged.specs.declared.answers.Found.{Found}
-use Rattle.tagged.specs.declared.answers.Found.the-variants as Found
-use Rattle.tagged.proofs.FoundLaws.{or-nowhere, found-append, found-same}
+use Rattle.tagged.specs.declared.answers.Rule.{Rule}
+use Rattle.tagged.specs.declared.answers.Answer.{Answer}
+use Rattle.tagged.specs.declared.answers.Answer.the-variants as Answer
+use Rattle.tagged.proofs.RefusalLaws.{Rising}
+use Rattle.tagged.proofs.FoundLaws.{found-same}
+use Rattle.tagged.proofs.LowerLaws.{lower-accepted, lower-joined, refusal-same, refusal-nowhere, answer-front}
 use Rattle.tagged.proofs.FieldLists.{fields-written}
 use Rattle.tagged.proofs.ListBytes.{field-length}
 use Rattle.tagged.proofs.SortLaws.{sort-back}
-use Rattle.verilog_check.specs.Walk.{Walker, walkAll, ownFirst}
+use Rattle.verilog_check.specs.Walk.{Walker, walkAll}
 
--- elements that are tested each by itself
-module _ {A : Type 0} (test : A → Bool) where
-  abbrev pub firstOf : List (Placed A) → Found
-  firstOf l = firstBroken (λ earlier a. test a) [] l
+-- elements that are judged each by itself, at its place
+module _ {A : Type 0} (judge : A → ℕ → Answer) where
+  abbrev pub lowestOf : List (Placed A) → Answer
+  lowestOf [] = Answer.Accepted
+  lowestOf (x ∷ l) = lowerRefusal (judge (x .what) (x .place)) (lowestOf l)
 
-  any-earlier : (earlier : List A) (l : List (Placed A)) → firstBroken (λ earlier a. test a) earlier l ≡ firstOf l
-  any-earlier earlier l = found-same (λ passed a. test a) (λ passed a. test a) earlier [] l (λ passed p a s. refl)
+  -- one list, and then the other
+  pub lowest-append : (l m : List (Placed A)) → lowestOf (l ++ m) ≡ lowerRefusal (lowestOf l) (lowestOf m)
+  lowest-append [] m = refl
+  lowest-append (x ∷ l) m = ap (lowerRefusal (judge (x .what) (x .place))) (lowest-append l m) ∙ sym (lower-joined (judge (x .what) (x .place)) (lowestOf l) (lowestOf m))
 
-  -- the first by itself, then the others
-  pub first-own : (x : Placed A) (l : List (Placed A)) → firstOf (x ∷ l) ≡ ownFirst (test (x .what)) (x .place) (firstOf l)
-  unfolding firstBroken
-  first-own x l = ap (λ (f : Found). choose (test (x .what)) (λ _. Found.At (x .place)) (λ _. f)) (any-earlier (x .what ∷ []) l) ∙ go (test (x .what))
-    where
-      go : (b : Bool) → choose b (λ _. Found.At (x .place)) (λ _. firstOf l) ≡ ownFirst b (x .place) (firstOf l)
-      go true = refl
-      go false = refl
+-- where the judge looks for rules in rising order, they all are refused for the first rule that one of them breaks, at the first place
+pub lowest-first : {A : Type 0} (test : Rule → A → Bool) {from : ℕ} {rules : List Rule} → Rising from rules → (l : List (Placed A)) →
+    lowestOf (λ a at. firstRefusal (λ rule. foundIf (test rule a) at) rules) l ≡ firstRefusal (λ rule. firstBroken (λ earlier a. test rule a) [] l) rules
+unfolding firstBroken
+lowest-first test {rules = rules} r [] = sym (refusal-nowhere rules)
+lowest-first {A} test {rules = rules} r (x ∷ l) =
+    ap (lowerRefusal (firstRefusal (λ rule. foundIf (test rule (x .what)) (x .place)) rules)) (lowest-first test r l ∙ refusal-same _ _ any-earlier rules)
+    ∙ sym (answer-front (λ rule earlier a. test rule a) [] x l r)
+  where
+    any-earlier : (rule : Rule) → firstBroken (λ earlier a. test rule a) [] l ≡ firstBroken (λ earlier a. test rule a) (x .what ∷ []) l
+    any-earlier rule = found-same (λ passed a. test rule a) (λ passed a. test rule a) [] (x .what ∷ []) l (λ passed p a s. refl)
 
-  -- one list, or else the other
-  pub first-append : (l m : List (Placed A)) → firstOf (l ++ m) ≡ orElse (firstOf l) (firstOf m)
-  first-append l m = found-append (λ passed a. test a) [] l m ∙ ap (orElse (firstOf l)) (any-earlier (unplaced l) m)
-
--- these bytes are a field, and a walk that comes to it finds this
-pub record Walked (walk : Walker) (at : ℕ) (bytes : List ℕ) (found : Found) : Type 0 where
+-- these bytes are a field, and a walk that comes to it gives this
+pub record Walked (walk : Walker) (at : ℕ) (bytes : List ℕ) (answer : Answer) : Type 0 where
   pub sort : Sort
   pub payload : List ℕ
   pub field : bytes ≡ fieldBytes (tagOf sort) payload
   pub short : length payload < 65536
-  pub finds : walk at sort payload ≡ found
+  pub gives : walk at sort payload ≡ answer
 
 -- nothing is left
-walk-nothing : (walk : Walker) (at : ℕ) → walkAll walk (fieldsAt at []) ≡ Found.Nowhere
+pub walk-none : (walk : Walker) (at : ℕ) → walkAll walk (fieldsAt at []) ≡ Answer.Accepted
 unfolding walkAll fieldsAt readFrom
-walk-nothing walk at = refl
+walk-none walk at = refl
 
-pub walk-none : {A : Type 0} (test : A → Bool) (walk : Walker) (at : ℕ) → walkAll walk (fieldsAt at []) ≡ firstOf test []
-unfolding firstBroken
-walk-none test walk at = walk-nothing walk at
-
-module _ {walk : Walker} {at : ℕ} {bytes : List ℕ} {found : Found} (w : Walked walk at bytes found) where
+module _ {walk : Walker} {at : ℕ} {bytes : List ℕ} {answer : Answer} (w : Walked walk at bytes answer) where
   -- the field, and then what follows it
-  walk-then : (after : List ℕ) → walkAll walk (fieldsAt at (bytes ++ after)) ≡ orElse found (walkAll walk (fieldsAt (at + length bytes) after))
+  walk-then : (after : List ℕ) → walkAll walk (fieldsAt at (bytes ++ after)) ≡ lowerRefusal answer (walkAll walk (fieldsAt (at + length bytes) after))
   unfolding walkAll
   walk-then after =
-      rw (w .field, fields-written at (tagOf (w .sort)) (w .payload) after (w .short), sort-back (w .sort), w .finds, field-length (tagOf (w .sort)) (w .payload))
+      rw (w .field, fields-written at (tagOf (w .sort)) (w .payload) after (w .short), sort-back (w .sort), w .gives, field-length (tagOf (w .sort)) (w .payload))
 
   -- nothing follows it
-  pub walk-last : walkAll walk (fieldsAt at bytes) ≡ found
+  pub walk-last : walkAll walk (fieldsAt at bytes) ≡ answer
   walk-last =
       ap (λ (l : List ℕ). walkAll walk (fieldsAt at l)) (sym (append-nil bytes))
-      ∙ walk-then [] ∙ ap (orElse found) (walk-nothing walk (at + length bytes)) ∙ or-nowhere found
+      ∙ walk-then [] ∙ ap (lowerRefusal answer) (walk-none walk (at + length bytes)) ∙ lower-accepted answer
 
--- a field, and then what follows it, where each finds the first of some elements
-pub walk-joined : {A : Type 0} (test : A → Bool) (l m : List (Placed A)) {walk : Walker} {at : ℕ} {bytes : List ℕ} → Walked walk at bytes (firstOf test l) →
-    (after : List ℕ) (next : ℕ) → at + length bytes ≡ next → walkAll walk (fieldsAt next after) ≡ firstOf test m →
-    walkAll walk (fieldsAt at (bytes ++ after)) ≡ firstOf test (l ++ m)
-walk-joined test l m {walk} w after next place found =
+-- a field, and then what follows it, where each is refused for what some elements are
+pub walk-joined : {A : Type 0} (judge : A → ℕ → Answer) (l m : List (Placed A)) {walk : Walker} {at : ℕ} {bytes : List ℕ} → Walked walk at bytes (lowestOf judge l) →
+    (after : List ℕ) (next : ℕ) → at + length bytes ≡ next → walkAll walk (fieldsAt next after) ≡ lowestOf judge m →
+    walkAll walk (fieldsAt at (bytes ++ after)) ≡ lowestOf judge (l ++ m)
+walk-joined judge l m {walk} w after next place found =
     walk-then w after
-    ∙ ap (λ (n : ℕ). orElse (firstOf test l) (walkAll walk (fieldsAt n after))) place ∙ ap (orElse (firstOf test l)) found ∙ sym (first-append test l m)
+    ∙ ap (λ (n : ℕ). lowerRefusal (lowestOf judge l) (walkAll walk (fieldsAt n after))) place ∙ ap (lowerRefusal (lowestOf judge l)) found ∙ sym (lowest-append judge l m)

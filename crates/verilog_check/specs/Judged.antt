@@ -6,10 +6,13 @@ use Prim.Native.Nat.{ℕ}
 use lib.Dec.{leb, eqb}
 use lib.ListN.{length, getD}
 use Rattle.tagged.specs.Limits.{mostProcesses}
+use Rattle.tagged.specs.Refusals.{foundIf, firstRefusal}
 use Rattle.tagged.specs.declared.answers.Rule.{Rule}
 use Rattle.tagged.specs.declared.answers.Rule.the-variants as Rule
+use Rattle.tagged.specs.declared.answers.Answer.{Answer}
 use Rattle.verilog.specs.Nodes.{What, Node}
 use Rattle.verilog.specs.Rules.{byField, readsBy, assignsBy, isAssignment, isRead, breaks}
+use Rattle.verilog.specs.Answer.{moduleRules}
 use Rattle.verilog_check.specs.Tables.{variablesOf, otherKind, otherProcess, blockedElsewhere}
 
 -- does a field break this rule?
@@ -34,3 +37,7 @@ judged widths marks firsts Rule.Row n = false
 -- the same, of a field in process number p
 abbrev pub judgedIn : List ℕ → List ℕ → List ℕ → Rule → ℕ → What → Bool
 judgedIn widths marks firsts rule p w = judged widths marks firsts rule (record { inProcess = p; what = w })
+
+-- the first rule that such a field breaks, at its place
+abbrev pub fieldAnswer : List ℕ → List ℕ → List ℕ → ℕ → What → ℕ → Answer
+fieldAnswer widths marks firsts p w at = firstRefusal (λ rule. foundIf (judgedIn widths marks firsts rule p w) at) moduleRules

@@ -3,4 +3,3 @@ pub mod Tables
 pub mod Judged
 pub mod Walk
 pub mod Survey
-pub mod Answers

@@ -1,7 +1,7 @@
-// Does a field of a process break a rule? By what is known of the variables: the width of each, 1 for a register, and the first assignment to it.
+// Which rule does a field of a process break? By what is known of the variables: the width of each, 1 for a register, and the first assignment to it.
 ghost use mathlib.Core.Path.{_≡_};
-ghost use mathlib.Core.Bool.{_||_, not};
-ghost use Prim.Native.Nat.{_^_, _≤_};
+ghost use mathlib.Core.List.{List};
+ghost use Prim.Native.Nat.{ℕ, _^_, _≤_};
 ghost use lib.Dec.{leb, eqb};
 ghost use lib.ListN.{length, getD};
 ghost use Rattle.verilog.specs.Tree.{constant};
@@ -10,8 +10,9 @@ ghost use Rattle.verilog.specs.Nodes as nodes;
 ghost use Rattle.verilog.specs.Reading.{expressionWith, expressionIn, frontBy};
 ghost use Rattle.verilog.specs.Rules.{expressionWidth, constantBroken, readsBy, assignsBy, operandsDiffer, readOutside, statementDiffers, writeOutside};
 ghost use Rattle.verilog_check.specs.Tables.{variablesOf, kindBit, otherKind, otherProcess, blockedElsewhere};
-ghost use Rattle.verilog_check.specs.Judged.{judgedIn};
+ghost use Rattle.verilog_check.specs.Judged.{fieldAnswer};
 ghost use Rattle.verilog_check.specs.Walk.{statementOf};
+use tagged::answers::Answer;
 use tagged::answers::Rule;
 use tagged::bytes::byte_at;
 use tagged::bytes::four_of;
@@ -162,29 +163,37 @@ fn reads_elsewhere(
     }
 }
 
-// Does an expression break this rule?
-pub fn expression_breaks(
-    rule: Rule,
+// The first rule that an expression breaks, at its place.
+pub fn judge_expression(
     process: usize,
     widths: &[u8],
     marks: &[u8],
     firsts: &[usize],
     sort: ExpressionSort,
     payload: &[u8],
+    at: usize,
     depth: usize,
-) -> bool
+) -> Answer
     requires { ⌜ process ≤ 2 ^ 40 ⌝ }
-    ensures { λ r. ⌜ r ≡ judgedIn (now (widths .entry)) (now (marks .entry)) (now (firsts .entry)) rule process
-        (expression (expressionWith (expressionIn depth) sort (now (payload .entry)))) ⌝ }
+    ensures { λ r. ⌜ r ≡ fieldAnswer (now (widths .entry)) (now (marks .entry)) (now (firsts .entry)) process
+        (expression (expressionWith (expressionIn depth) sort (now (payload .entry)))) at ⌝ }
 {
-    match rule {
-        Rule::Value => constant_broken(sort, payload, depth),
-        Rule::Reference => reads_missing(sort, payload, depth, widths),
-        Rule::Widths => operands_differ(sort, payload, depth, widths),
-        Rule::BitNumber => reads_outside(sort, payload, depth, widths),
-        Rule::ReadElsewhere => reads_elsewhere(sort, payload, depth, process, firsts),
-        _ => false,
+    if constant_broken(sort, payload, depth) {
+        return Answer::Refused(Rule::Value, at);
     }
+    if reads_missing(sort, payload, depth, widths) {
+        return Answer::Refused(Rule::Reference, at);
+    }
+    if operands_differ(sort, payload, depth, widths) {
+        return Answer::Refused(Rule::Widths, at);
+    }
+    if reads_outside(sort, payload, depth, widths) {
+        return Answer::Refused(Rule::BitNumber, at);
+    }
+    if reads_elsewhere(sort, payload, depth, process, firsts) {
+        return Answer::Refused(Rule::ReadElsewhere, at);
+    }
+    Answer::Accepted
 }
 
 // Refusal 6 on a statement: it assigns to what is no register.
@@ -266,29 +275,37 @@ fn process_differs(
     }
 }
 
-// Does a statement break this rule?
-pub fn statement_breaks(
-    rule: Rule,
+// The first rule that a statement breaks, at its place.
+pub fn judge_statement(
     process: usize,
     widths: &[u8],
     marks: &[u8],
     firsts: &[usize],
     sort: StatementSort,
     payload: &[u8],
+    at: usize,
     depth: usize,
-) -> bool
+) -> Answer
     requires { ⌜ process ≤ 2 ^ 40 ⌝ }
-    ensures { λ r. ⌜ r ≡ judgedIn (now (widths .entry)) (now (marks .entry)) (now (firsts .entry)) rule process
-        (statement (statementOf depth sort (now (payload .entry)))) ⌝ }
+    ensures { λ r. ⌜ r ≡ fieldAnswer (now (widths .entry)) (now (marks .entry)) (now (firsts .entry)) process
+        (statement (statementOf depth sort (now (payload .entry)))) at ⌝ }
 {
-    match rule {
-        Rule::Reference => assigns_missing(sort, payload, depth, marks),
-        Rule::Widths => statement_differs(sort, payload, depth, widths),
-        Rule::BitNumber => writes_outside(sort, payload, depth, widths),
-        Rule::BothKinds => kind_differs(sort, payload, depth, firsts),
-        Rule::TwoProcesses => process_differs(sort, payload, depth, process, firsts),
-        _ => false,
+    if assigns_missing(sort, payload, depth, marks) {
+        return Answer::Refused(Rule::Reference, at);
     }
+    if statement_differs(sort, payload, depth, widths) {
+        return Answer::Refused(Rule::Widths, at);
+    }
+    if writes_outside(sort, payload, depth, widths) {
+        return Answer::Refused(Rule::BitNumber, at);
+    }
+    if kind_differs(sort, payload, depth, firsts) {
+        return Answer::Refused(Rule::BothKinds, at);
+    }
+    if process_differs(sort, payload, depth, process, firsts) {
+        return Answer::Refused(Rule::TwoProcesses, at);
+    }
+    Answer::Accepted
 }
 
 // The width of the constant at the front of an item's payload.
@@ -301,41 +318,24 @@ fn item_width(payload: &[u8]) -> u8
     }
 }
 
-// Does an item break this rule, in a case whose selector has this width?
-pub fn item_breaks(
-    rule: Rule,
-    process: usize,
-    widths: &[u8],
-    marks: &[u8],
-    firsts: &[usize],
-    selector_width: u8,
-    payload: &[u8],
-) -> bool
-    ensures { λ r. ⌜ r ≡ judgedIn (now (widths .entry)) (now (marks .entry)) (now (firsts .entry)) rule process
-        (itemOf (constant «selector_width» 0) (frontBy (λ t p. getD p 0 0) 0 (now (payload .entry)))) ⌝ }
+// The first rule that an item breaks, at its place, in a case whose selector has this width.
+pub fn judge_item(selector_width: u8, payload: &[u8], at: usize) -> Answer
+    ensures { λ r. ⌜ ((widths marks firsts : List ℕ) (process : ℕ) → r
+        ≡ fieldAnswer widths marks firsts process (itemOf (constant «selector_width» 0) (frontBy (λ t p. getD p 0 0) 0 (now (payload .entry)))) at) ⌝ }
 {
-    match rule {
-        Rule::Widths => item_width(payload) != selector_width,
-        _ => false,
+    if item_width(payload) != selector_width {
+        return Answer::Refused(Rule::Widths, at);
     }
+    Answer::Accepted
 }
 
 // Refusal 5 on a process, by its number.
-pub fn process_breaks(
-    rule: Rule,
-    process: usize,
-    widths: &[u8],
-    marks: &[u8],
-    firsts: &[usize],
-) -> bool
+pub fn judge_process(process: usize, at: usize) -> Answer
     requires { ⌜ process ≤ 2 ^ 40 ⌝ }
-    ensures { λ r. ⌜ r ≡ judgedIn (now (widths .entry)) (now (marks .entry)) (now (firsts .entry)) rule process nodes.process ⌝ }
+    ensures { λ r. ⌜ ((widths marks firsts : List ℕ) → r ≡ fieldAnswer widths marks firsts process nodes.process at) ⌝ }
 {
-    match rule {
-        Rule::Count => match Processes::new(process + 1) {
-            ProcessesMade::Good(_) => false,
-            ProcessesMade::Refused => true,
-        },
-        _ => false,
+    match Processes::new(process + 1) {
+        ProcessesMade::Good(_) => Answer::Accepted,
+        ProcessesMade::Refused => Answer::Refused(Rule::Count, at),
     }
 }

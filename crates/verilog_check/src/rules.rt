@@ -1,19 +1,20 @@
-// Refusals 3 to 11 of a file to which 1 and 2 do not apply, in their order.
+// Refusals 3 to 11 of a file to which 1 and 2 do not apply: of the declarations and of the processes, the lower number stands.
 ghost use mathlib.Core.Path.{_≡_};
 ghost use mathlib.Core.List.{[], _∷_};
 ghost use Prim.Native.Nat.{_+_, _^_, _≤_};
 ghost use lib.ListN.{length};
 ghost use Rattle.tagged.specs.Files.{fileAnswer};
 ghost use Rattle.tagged.specs.Limits.{longestModule};
-ghost use Rattle.tagged.specs.Refusals.{firstRefusal};
+ghost use Rattle.tagged.specs.Refusals.{firstBroken, firstRefusal};
+ghost use Rattle.tagged.specs.Declarations.{declarationBreaks, declarationsAt};
 ghost use Rattle.tagged.specs.declared.answers.Answer.the-variants as answers;
+ghost use Rattle.tagged.specs.declared.answers.Rule.the-variants as ruled;
 ghost use Rattle.tagged.specs.declared.fields.Step.the-variants as steps;
-ghost use Rattle.verilog.specs.Answer.{moduleRules, treeAnswer};
+ghost use Rattle.verilog.specs.Answer.{treeAnswer};
 ghost use Rattle.verilog.specs.Form.{moduleForm};
 ghost use Rattle.verilog.specs.Reading.{moduleIn};
-ghost use Rattle.verilog_check.specs.Answers.{ruleFound};
 use crate::survey::survey;
-use crate::walk::processes_broken;
+use crate::walk::processes_answer;
 use tagged::answers::Answer;
 use tagged::answers::Found;
 use tagged::answers::Rule;
@@ -24,100 +25,19 @@ use tagged::declarations::told;
 use tagged::declarations::variable_table;
 use tagged::limits::Variables;
 
-// The first place that breaks this rule: among the declarations of a payload, or else among the processes, whose first byte stands at `base`.
-fn rule_broken(
-    rule: Rule,
-    widths: &[u8],
-    marks: &[u8],
-    firsts: &[usize],
-    payload: &[u8],
-    list: &[u8],
-    base: usize,
-) -> Found
-    requires { ⌜ (3 + length (now payload) ≤ 2 ^ 40) × (base + length (now list) ≤ 2 ^ 40) ⌝ }
-    ensures { λ r. ⌜ r ≡ ruleFound (now (widths .entry)) (now (marks .entry)) (now (firsts .entry)) (now (payload .entry)) (now (list .entry)) base rule ⌝ }
+// What the declarations of a payload are refused for: rules 3 to 5.
+fn declarations_answer(payload: &[u8]) -> Answer
+    requires { ⌜ 3 + length (now payload) ≤ 2 ^ 40 ⌝ }
+    ensures { λ r. ⌜ r ≡ firstRefusal (λ rule. firstBroken (declarationBreaks rule) [] (declarationsAt 3 (now (payload .entry)))) (ruled.Value ∷ ruled.Name ∷ ruled.Count ∷ []) ⌝ }
 {
-    match declaration_broken(rule, payload, 3) {
-        Found::At(place) => Found::At(place),
-        Found::Nowhere => processes_broken(rule, widths, marks, firsts, list, base),
-    }
-}
-
-// The answer of three rules, in this order.
-fn three_rules(
-    first: Rule,
-    second: Rule,
-    third: Rule,
-    widths: &[u8],
-    marks: &[u8],
-    firsts: &[usize],
-    payload: &[u8],
-    list: &[u8],
-    base: usize,
-) -> Answer
-    requires { ⌜ (3 + length (now payload) ≤ 2 ^ 40) × (base + length (now list) ≤ 2 ^ 40) ⌝ }
-    ensures { λ r. ⌜ r ≡ firstRefusal (ruleFound (now (widths .entry)) (now (marks .entry)) (now (firsts .entry)) (now (payload .entry)) (now (list .entry)) base)
-        (first ∷ second ∷ third ∷ []) ⌝ }
-{
-    match rule_broken(first, widths, marks, firsts, payload, list, base) {
-        Found::At(place) => Answer::Refused(first, place),
-        Found::Nowhere => match rule_broken(second, widths, marks, firsts, payload, list, base) {
-            Found::At(place) => Answer::Refused(second, place),
-            Found::Nowhere => match rule_broken(third, widths, marks, firsts, payload, list, base) {
-                Found::At(place) => Answer::Refused(third, place),
+    match declaration_broken(Rule::Value, payload, 3) {
+        Found::At(place) => Answer::Refused(Rule::Value, place),
+        Found::Nowhere => match declaration_broken(Rule::Name, payload, 3) {
+            Found::At(place) => Answer::Refused(Rule::Name, place),
+            Found::Nowhere => match declaration_broken(Rule::Count, payload, 3) {
+                Found::At(place) => Answer::Refused(Rule::Count, place),
                 Found::Nowhere => Answer::Accepted,
             },
-        },
-    }
-}
-
-// The answer of rules 3 to 11, by tables of the variables.
-fn all_rules(
-    widths: &[u8],
-    marks: &[u8],
-    firsts: &[usize],
-    payload: &[u8],
-    list: &[u8],
-    base: usize,
-) -> Answer
-    requires { ⌜ (3 + length (now payload) ≤ 2 ^ 40) × (base + length (now list) ≤ 2 ^ 40) ⌝ }
-    ensures { λ r. ⌜ r ≡ firstRefusal (ruleFound (now (widths .entry)) (now (marks .entry)) (now (firsts .entry)) (now (payload .entry)) (now (list .entry)) base) moduleRules ⌝ }
-{
-    match three_rules(
-        Rule::Value,
-        Rule::Name,
-        Rule::Count,
-        widths,
-        marks,
-        firsts,
-        payload,
-        list,
-        base,
-    ) {
-        Answer::Refused(rule, place) => Answer::Refused(rule, place),
-        Answer::Accepted => match three_rules(
-            Rule::Reference,
-            Rule::Widths,
-            Rule::BitNumber,
-            widths,
-            marks,
-            firsts,
-            payload,
-            list,
-            base,
-        ) {
-            Answer::Refused(rule, place) => Answer::Refused(rule, place),
-            Answer::Accepted => three_rules(
-                Rule::BothKinds,
-                Rule::TwoProcesses,
-                Rule::ReadElsewhere,
-                widths,
-                marks,
-                firsts,
-                payload,
-                list,
-                base,
-            ),
         },
     }
 }
@@ -136,12 +56,7 @@ pub fn tree_answer(file: &[u8]) -> Answer
     let marks = table.registers;
     let mut firsts = [0usize; Variables::MAX];
     survey(list, &mut firsts);
-    all_rules(
-        &widths[..count],
-        &marks[..count],
-        &firsts,
-        payload,
-        list,
-        3 + bytes,
-    )
+    let declared = declarations_answer(payload);
+    let processes = processes_answer(&widths[..count], &marks[..count], &firsts, list, 3 + bytes);
+    declared.or_lower(processes)
 }

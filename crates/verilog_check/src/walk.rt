@@ -1,4 +1,4 @@
-// The first field of a list of processes that breaks a rule, by one walk for every rule: each field by itself first, then those that it holds, in order.
+// What the fields of a list of processes are refused for, by one walk for all rules: each field by itself first, then those that it holds, in order.
 // `base` is the place of a list's first byte, `at` that of a field, `depth` how many levels of fields may still be opened.
 ghost use mathlib.Core.Path.{_≡_};
 ghost use Prim.Native.Nat.{_+_, _^_, _≤_};
@@ -6,15 +6,14 @@ ghost use lib.ListN.{length};
 ghost use Rattle.tagged.specs.Fields.{fieldsAt};
 ghost use Rattle.verilog.specs.Rules.{expressionWidth};
 ghost use Rattle.verilog_check.specs.Tables.{variablesOf};
-ghost use Rattle.verilog_check.specs.Judged.{judgedIn};
+ghost use Rattle.verilog_check.specs.Judged.{fieldAnswer};
 ghost use Rattle.verilog_check.specs.Walk.{beforeOperands, beforeParts, walkAll, walkExpression, walkStatement, walkPart, walkItem, walkProcess, walkProcesses};
-use crate::judge::expression_breaks;
-use crate::judge::item_breaks;
-use crate::judge::process_breaks;
-use crate::judge::statement_breaks;
+use crate::judge::judge_expression;
+use crate::judge::judge_item;
+use crate::judge::judge_process;
+use crate::judge::judge_statement;
 use crate::judge::width_of;
-use tagged::answers::Found;
-use tagged::answers::Rule;
+use tagged::answers::Answer;
 use tagged::declarations::payload_at;
 use tagged::fields::Opened;
 use tagged::fields::open_field;
@@ -51,7 +50,6 @@ fn before_parts(sort: StatementSort) -> usize
 
 // An expression, then its operands.
 fn expression(
-    rule: Rule,
     process: usize,
     widths: &[u8],
     marks: &[u8],
@@ -60,33 +58,30 @@ fn expression(
     payload: &[u8],
     at: usize,
     depth: usize,
-) -> Found
+) -> Answer
     requires { ⌜ (process ≤ 2 ^ 40) × (at + 3 + length (now payload) ≤ 2 ^ 40) ⌝ }
-    ensures { λ r. ⌜ r ≡ walkExpression (judgedIn (now (widths .entry)) (now (marks .entry)) (now (firsts .entry)) rule process) depth at sort (now (payload .entry)) ⌝ }
+    ensures { λ r. ⌜ r ≡ walkExpression (fieldAnswer (now (widths .entry)) (now (marks .entry)) (now (firsts .entry)) process) depth at sort (now (payload .entry)) ⌝ }
 {
     if depth == 0 {
-        return Found::Nowhere;
+        return Answer::Accepted;
     }
     match sort {
         Sort::Expression(inner) => {
-            if expression_breaks(
-                rule,
+            let own = judge_expression(
                 process,
                 widths,
                 marks,
                 firsts,
                 inner,
                 payload,
+                at,
                 depth - 1,
-            ) {
-                return Found::At(at);
-            }
+            );
             let fixed = before_operands(inner);
             if payload.len() < fixed {
-                return Found::Nowhere;
+                return own;
             }
-            operands(
-                rule,
+            let inside = operands(
                 process,
                 widths,
                 marks,
@@ -94,15 +89,15 @@ fn expression(
                 &payload[fixed..],
                 at + 3 + fixed,
                 depth - 1,
-            )
+            );
+            own.or_lower(inside)
         }
-        _ => Found::Nowhere,
+        _ => Answer::Accepted,
     }
 }
 
 // The expressions of a list.
 fn operands(
-    rule: Rule,
     process: usize,
     widths: &[u8],
     marks: &[u8],
@@ -110,17 +105,17 @@ fn operands(
     list: &[u8],
     base: usize,
     depth: usize,
-) -> Found
+) -> Answer
     requires { ⌜ (process ≤ 2 ^ 40) × (base + length (now list) ≤ 2 ^ 40) ⌝ }
-    ensures { λ r. ⌜ r ≡ walkAll (walkExpression (judgedIn (now (widths .entry)) (now (marks .entry)) (now (firsts .entry)) rule process) depth) (fieldsAt base (now (list .entry))) ⌝ }
+    ensures { λ r. ⌜ r ≡ walkAll (walkExpression (fieldAnswer (now (widths .entry)) (now (marks .entry)) (now (firsts .entry)) process) depth) (fieldsAt base (now (list .entry))) ⌝ }
 {
+    let mut best = Answer::Accepted;
     let mut at: usize = 0;
     loop {
         match open_field(&list[at..], 0, 0) {
             Opened::Field(sort, size) => {
                 let payload = payload_at(list, at, size);
-                match expression(
-                    rule,
+                let field = expression(
                     process,
                     widths,
                     marks,
@@ -129,17 +124,12 @@ fn operands(
                     payload,
                     base + at,
                     depth,
-                ) {
-                    Found::At(place) => {
-                        return Found::At(place);
-                    }
-                    Found::Nowhere => {
-                        at = at + 3 + size;
-                    }
-                }
+                );
+                best = best.or_lower(field);
+                at = at + 3 + size;
             }
             Opened::Refused(_) => {
-                return Found::Nowhere;
+                return best;
             }
         }
     }
@@ -147,7 +137,6 @@ fn operands(
 
 // A statement, then its expressions, items and blocks.
 fn statement(
-    rule: Rule,
     process: usize,
     widths: &[u8],
     marks: &[u8],
@@ -156,35 +145,32 @@ fn statement(
     payload: &[u8],
     at: usize,
     depth: usize,
-) -> Found
+) -> Answer
     requires { ⌜ (process ≤ 2 ^ 40) × (at + 3 + length (now payload) ≤ 2 ^ 40) ⌝ }
-    ensures { λ r. ⌜ r ≡ walkStatement (judgedIn (now (widths .entry)) (now (marks .entry)) (now (firsts .entry)) rule process)
+    ensures { λ r. ⌜ r ≡ walkStatement (fieldAnswer (now (widths .entry)) (now (marks .entry)) (now (firsts .entry)) process)
         (expressionWidth (variablesOf (now (widths .entry)))) depth at sort (now (payload .entry)) ⌝ }
 {
     if depth == 0 {
-        return Found::Nowhere;
+        return Answer::Accepted;
     }
     match sort {
         Sort::Statement(inner) => {
-            if statement_breaks(
-                rule,
+            let own = judge_statement(
                 process,
                 widths,
                 marks,
                 firsts,
                 inner,
                 payload,
+                at,
                 depth - 1,
-            ) {
-                return Found::At(at);
-            }
+            );
             let fixed = before_parts(inner);
             if payload.len() < fixed {
-                return Found::Nowhere;
+                return own;
             }
             let selector = width_of(payload, depth - 1, widths);
-            parts(
-                rule,
+            let inside = parts(
                 process,
                 widths,
                 marks,
@@ -193,15 +179,15 @@ fn statement(
                 &payload[fixed..],
                 at + 3 + fixed,
                 depth - 1,
-            )
+            );
+            own.or_lower(inside)
         }
-        _ => Found::Nowhere,
+        _ => Answer::Accepted,
     }
 }
 
 // The expressions, items and blocks of a list, in a statement whose first expression has the width `selector`.
 fn parts(
-    rule: Rule,
     process: usize,
     widths: &[u8],
     marks: &[u8],
@@ -210,18 +196,18 @@ fn parts(
     list: &[u8],
     base: usize,
     depth: usize,
-) -> Found
+) -> Answer
     requires { ⌜ (process ≤ 2 ^ 40) × (base + length (now list) ≤ 2 ^ 40) ⌝ }
-    ensures { λ r. ⌜ r ≡ walkAll (walkPart (judgedIn (now (widths .entry)) (now (marks .entry)) (now (firsts .entry)) rule process)
+    ensures { λ r. ⌜ r ≡ walkAll (walkPart (fieldAnswer (now (widths .entry)) (now (marks .entry)) (now (firsts .entry)) process)
         (expressionWidth (variablesOf (now (widths .entry)))) depth selector) (fieldsAt base (now (list .entry))) ⌝ }
 {
+    let mut best = Answer::Accepted;
     let mut at: usize = 0;
     loop {
         match open_field(&list[at..], 0, 0) {
             Opened::Field(sort, size) => {
                 let payload = payload_at(list, at, size);
-                match part(
-                    rule,
+                let field = part(
                     process,
                     widths,
                     marks,
@@ -231,17 +217,12 @@ fn parts(
                     payload,
                     base + at,
                     depth,
-                ) {
-                    Found::At(place) => {
-                        return Found::At(place);
-                    }
-                    Found::Nowhere => {
-                        at = at + 3 + size;
-                    }
-                }
+                );
+                best = best.or_lower(field);
+                at = at + 3 + size;
             }
             Opened::Refused(_) => {
-                return Found::Nowhere;
+                return best;
             }
         }
     }
@@ -249,7 +230,6 @@ fn parts(
 
 // An expression, an item or a block.
 fn part(
-    rule: Rule,
     process: usize,
     widths: &[u8],
     marks: &[u8],
@@ -259,28 +239,17 @@ fn part(
     payload: &[u8],
     at: usize,
     depth: usize,
-) -> Found
+) -> Answer
     requires { ⌜ (process ≤ 2 ^ 40) × (at + 3 + length (now payload) ≤ 2 ^ 40) ⌝ }
-    ensures { λ r. ⌜ r ≡ walkPart (judgedIn (now (widths .entry)) (now (marks .entry)) (now (firsts .entry)) rule process)
+    ensures { λ r. ⌜ r ≡ walkPart (fieldAnswer (now (widths .entry)) (now (marks .entry)) (now (firsts .entry)) process)
         (expressionWidth (variablesOf (now (widths .entry)))) depth selector at sort (now (payload .entry)) ⌝ }
 {
     if depth == 0 {
-        return Found::Nowhere;
+        return Answer::Accepted;
     }
     match sort {
-        Sort::Expression(_) => expression(
-            rule,
-            process,
-            widths,
-            marks,
-            firsts,
-            sort,
-            payload,
-            at,
-            depth,
-        ),
+        Sort::Expression(_) => expression(process, widths, marks, firsts, sort, payload, at, depth),
         Sort::Item => item(
-            rule,
             process,
             widths,
             marks,
@@ -290,23 +259,13 @@ fn part(
             at,
             depth - 1,
         ),
-        Sort::Block => statements(
-            rule,
-            process,
-            widths,
-            marks,
-            firsts,
-            payload,
-            at + 3,
-            depth - 1,
-        ),
-        _ => Found::Nowhere,
+        Sort::Block => statements(process, widths, marks, firsts, payload, at + 3, depth - 1),
+        _ => Answer::Accepted,
     }
 }
 
 // An item, then its constant and its block.
 fn item(
-    rule: Rule,
     process: usize,
     widths: &[u8],
     marks: &[u8],
@@ -315,16 +274,13 @@ fn item(
     payload: &[u8],
     at: usize,
     depth: usize,
-) -> Found
+) -> Answer
     requires { ⌜ (process ≤ 2 ^ 40) × (at + 3 + length (now payload) ≤ 2 ^ 40) ⌝ }
-    ensures { λ r. ⌜ r ≡ walkItem (judgedIn (now (widths .entry)) (now (marks .entry)) (now (firsts .entry)) rule process)
+    ensures { λ r. ⌜ r ≡ walkItem (fieldAnswer (now (widths .entry)) (now (marks .entry)) (now (firsts .entry)) process)
         (expressionWidth (variablesOf (now (widths .entry)))) depth selector at (now (payload .entry)) ⌝ }
 {
-    if item_breaks(rule, process, widths, marks, firsts, selector, payload) {
-        return Found::At(at);
-    }
-    parts(
-        rule,
+    let own = judge_item(selector, payload, at);
+    let inside = parts(
         process,
         widths,
         marks,
@@ -333,12 +289,12 @@ fn item(
         payload,
         at + 3,
         depth,
-    )
+    );
+    own.or_lower(inside)
 }
 
 // The statements of a block or of a process.
 fn statements(
-    rule: Rule,
     process: usize,
     widths: &[u8],
     marks: &[u8],
@@ -346,18 +302,18 @@ fn statements(
     list: &[u8],
     base: usize,
     depth: usize,
-) -> Found
+) -> Answer
     requires { ⌜ (process ≤ 2 ^ 40) × (base + length (now list) ≤ 2 ^ 40) ⌝ }
-    ensures { λ r. ⌜ r ≡ walkAll (walkStatement (judgedIn (now (widths .entry)) (now (marks .entry)) (now (firsts .entry)) rule process)
+    ensures { λ r. ⌜ r ≡ walkAll (walkStatement (fieldAnswer (now (widths .entry)) (now (marks .entry)) (now (firsts .entry)) process)
         (expressionWidth (variablesOf (now (widths .entry)))) depth) (fieldsAt base (now (list .entry))) ⌝ }
 {
+    let mut best = Answer::Accepted;
     let mut at: usize = 0;
     loop {
         match open_field(&list[at..], 0, 0) {
             Opened::Field(sort, size) => {
                 let payload = payload_at(list, at, size);
-                match statement(
-                    rule,
+                let field = statement(
                     process,
                     widths,
                     marks,
@@ -366,25 +322,19 @@ fn statements(
                     payload,
                     base + at,
                     depth,
-                ) {
-                    Found::At(place) => {
-                        return Found::At(place);
-                    }
-                    Found::Nowhere => {
-                        at = at + 3 + size;
-                    }
-                }
+                );
+                best = best.or_lower(field);
+                at = at + 3 + size;
             }
             Opened::Refused(_) => {
-                return Found::Nowhere;
+                return best;
             }
         }
     }
 }
 
 // A process, then its statements.
-fn process_broken(
-    rule: Rule,
+fn process_answer(
     process: usize,
     widths: &[u8],
     marks: &[u8],
@@ -392,18 +342,15 @@ fn process_broken(
     sort: Sort,
     payload: &[u8],
     at: usize,
-) -> Found
+) -> Answer
     requires { ⌜ (process ≤ 2 ^ 40) × (at + 3 + length (now payload) ≤ 2 ^ 40) ⌝ }
-    ensures { λ r. ⌜ r ≡ walkProcess (judgedIn (now (widths .entry)) (now (marks .entry)) (now (firsts .entry)) rule process)
+    ensures { λ r. ⌜ r ≡ walkProcess (fieldAnswer (now (widths .entry)) (now (marks .entry)) (now (firsts .entry)) process)
         (expressionWidth (variablesOf (now (widths .entry)))) at sort (now (payload .entry)) ⌝ }
 {
     match sort {
         Sort::Process => {
-            if process_breaks(rule, process, widths, marks, firsts) {
-                return Found::At(at);
-            }
-            statements(
-                rule,
+            let own = judge_process(process, at);
+            let inside = statements(
                 process,
                 widths,
                 marks,
@@ -411,33 +358,33 @@ fn process_broken(
                 payload,
                 at + 3,
                 Depth::MAX - 2,
-            )
+            );
+            own.or_lower(inside)
         }
-        _ => Found::Nowhere,
+        _ => Answer::Accepted,
     }
 }
 
-// The first field that breaks this rule among the processes of a list.
-pub fn processes_broken(
-    rule: Rule,
+// What the processes of a list are refused for.
+pub fn processes_answer(
     widths: &[u8],
     marks: &[u8],
     firsts: &[usize],
     list: &[u8],
     base: usize,
-) -> Found
+) -> Answer
     requires { ⌜ base + length (now list) ≤ 2 ^ 40 ⌝ }
-    ensures { λ r. ⌜ r ≡ walkProcesses (judgedIn (now (widths .entry)) (now (marks .entry)) (now (firsts .entry)) rule)
+    ensures { λ r. ⌜ r ≡ walkProcesses (fieldAnswer (now (widths .entry)) (now (marks .entry)) (now (firsts .entry)))
         (expressionWidth (variablesOf (now (widths .entry)))) 0 (fieldsAt base (now (list .entry))) ⌝ }
 {
+    let mut best = Answer::Accepted;
     let mut at: usize = 0;
     let mut process: usize = 0;
     loop {
         match open_field(&list[at..], 0, 0) {
             Opened::Field(sort, size) => {
                 let payload = payload_at(list, at, size);
-                match process_broken(
-                    rule,
+                let field = process_answer(
                     process,
                     widths,
                     marks,
@@ -445,18 +392,13 @@ pub fn processes_broken(
                     sort,
                     payload,
                     base + at,
-                ) {
-                    Found::At(place) => {
-                        return Found::At(place);
-                    }
-                    Found::Nowhere => {
-                        at = at + 3 + size;
-                        process = process + 1;
-                    }
-                }
+                );
+                best = best.or_lower(field);
+                at = at + 3 + size;
+                process = process + 1;
             }
             Opened::Refused(_) => {
-                return Found::Nowhere;
+                return best;
             }
         }
     }
