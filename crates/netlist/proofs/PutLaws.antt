@@ -12,9 +12,11 @@ use Rattle.tagged.specs.Fields.{fieldBytes, allBytesOf}
 use Rattle.tagged.specs.declared.sorts.CellSort.{CellSort}
 use Rattle.tagged.specs.declared.sorts.Sort.the-variants as Sort
 use Rattle.tagged.proofs.WriteLaws.{wrote-then}
+use Rattle.tagged.proofs.ListBytes.{field-length}
 use Rattle.netlist.specs.declared.Operand.{Operand}
-use Rattle.netlist.specs.Lists.{Slot, operand, byte}
-use Rattle.netlist.specs.Form.{operandBytes, slotBytes}
+use Rattle.netlist.specs.declared.Cell.{Cell}
+use Rattle.netlist.specs.Lists.{Slot, operand, byte, cellSortOf, cellWidth, cellSlots}
+use Rattle.netlist.specs.Form.{operandBytes, slotBytes, cellBytes}
 use Rattle.netlist.proofs.CellBytes.{operand-length}
 
 -- how many bytes some slots take
@@ -28,6 +30,11 @@ unfolding allBytesOf
 slots-size [] = refl
 slots-size (operand o ∷ l) = omega (arith, slots-size l, operand-length o, length-append (operandBytes o) (allBytesOf slotBytes l))
 slots-size (byte k ∷ l) = omega (arith, slots-size l)
+
+-- how many bytes a cell takes: header and width, and its slots
+pub cell-size : (c : Cell) → length (cellBytes c) ≡ 4 + slotsSize (cellSlots c)
+unfolding cellBytes
+cell-size c = field-length (tagOf (Sort.Cell (cellSortOf c))) (cellWidth c ∷ allBytesOf slotBytes (cellSlots c)) ∙ omega (arith, slots-size (cellSlots c))
 
 -- the index past an operand
 pub past-operand : {o o₁ : List ℕ} {i i₁ : ℕ} (a : Operand) → Wrote o i (operandBytes a) o₁ i₁ → i₁ ≡ i + 6

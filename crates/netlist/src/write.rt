@@ -176,8 +176,22 @@ fn put_fixed(out: &mut [u8], at: usize, width: u8, vector: Operand, number: u8) 
     put_byte(out, next, number)
 }
 
-// Writes a cell, so far as there is room; the index past it.
-pub fn put_cell(out: &mut [u8], at: usize, cell: Cell) -> usize
+// How many bytes a cell takes: its header, its width, six for each operand, and one for a bit number.
+fn cell_size(cell: Cell) -> usize
+    ensures { λ r. ⌜ r ≡ length (cellBytes cell) ⌝ }
+{
+    match cell {
+        Cell::One(_, _, _) => 10,
+        Cell::Two(_, _, _, _) => 16,
+        Cell::Mux(_, _, _, _) => 22,
+        Cell::Put(_, _, _, _) => 17,
+        Cell::FixedBit(_, _, _) => 11,
+        Cell::ChosenBit(_, _, _) => 16,
+    }
+}
+
+// Writes a cell byte by byte, so far as there is room; the index past it.
+fn put_cell_bytes(out: &mut [u8], at: usize, cell: Cell) -> usize
     requires { ⌜ at + 22 ≤ 2 ^ 40 ⌝ }
     ensures { λ r. ⌜ Wrote (now (out .entry)) at (cellBytes cell) (now (out .exit)) r ⌝ }
 {
@@ -202,6 +216,18 @@ pub fn put_cell(out: &mut [u8], at: usize, cell: Cell) -> usize
             vector,
             index,
         ),
+    }
+}
+
+// Writes a cell, so far as there is room; the index past it. Where there is none, as in a pass that only measures, it is not looked at byte by byte.
+pub fn put_cell(out: &mut [u8], at: usize, cell: Cell) -> usize
+    requires { ⌜ at + 22 ≤ 2 ^ 40 ⌝ }
+    ensures { λ r. ⌜ Wrote (now (out .entry)) at (cellBytes cell) (now (out .exit)) r ⌝ }
+{
+    if out.len() <= at {
+        at + cell_size(cell)
+    } else {
+        put_cell_bytes(out, at, cell)
     }
 }
 

@@ -1,7 +1,7 @@
 -- Writing: bytes after bytes are one writing, a buffer keeps its length, and with room it holds just what was written.
 use mathlib.Core.Path.{_≡_, refl, sym, ap, _∙_}
 use mathlib.Core.List.{List, [], _∷_, _++_, append-nil}
-use Prim.Native.Nat.{ℕ, suc, _+_, _≤_}
+use Prim.Native.Nat.{ℕ, zero, suc, _+_, _≤_}
 use native.Mathlib.Nat.{add-zero, add-assoc, add-suc, suc-add}
 use native.Mathlib.Omega.{arith}
 use lib.ListN.{length, take, drop, length-append, set, drop-of-length-le}
@@ -33,6 +33,21 @@ wrote-roomy {o} {o′} {bs} {i} w h = w .list ∙ sets-eq bs o i h
 -- the buffer keeps its length
 pub wrote-length : {o o′ bs : List ℕ} {i i′ : ℕ} → Wrote o i bs o′ i′ → length o′ ≡ length o
 wrote-length {o} {o′} {bs} {i} w = ap length (w .list) ∙ length-sets o i bs
+
+-- past the end there is no room
+sets-outside : (o : List ℕ) (i : ℕ) (bs : List ℕ) → length o ≤ i → sets o i bs ≡ o
+sets-outside o i [] h = refl
+sets-outside o i (b ∷ bs) h =
+    let same : set o i b ≡ o = outside o i h in
+    rw same (sets-outside o (suc i) bs (omega arith))
+  where
+    outside : (l : List ℕ) (k : ℕ) → length l ≤ k → set l k b ≡ l
+    outside [] k e = refl
+    outside (x ∷ l) zero e = absurd (omega arith)
+    outside (x ∷ l) (suc k) e = ap (λ (r : List ℕ). x ∷ r) (outside l k (omega arith))
+
+pub wrote-outside : {o : List ℕ} {i next : ℕ} (bs : List ℕ) → length o ≤ i → next ≡ i + length bs → Wrote o i bs o next
+wrote-outside {o} {i} bs h past = record { list = sym (sets-outside o i bs h); past = past }
 
 -- bytes that take all the room
 pub sets-all : (o bs : List ℕ) → length bs ≡ length o → sets o 0 bs ≡ bs

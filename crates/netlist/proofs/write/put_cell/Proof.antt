@@ -1,35 +1,19 @@
--- `netlist::write::put_cell` meets its contract: each arm writes the bytes of the cell that led to it. Assumes nothing.
-use mathlib.Core.Path.{ap}
+-- `netlist::write::put_cell` meets its contract: without room nothing is written, and the index past the cell is by its size. Assumes nothing.
+use native.Mathlib.Omega.{arith}
+use Rattle.tagged.proofs.WriteLaws.{wrote-outside}
 use Rattle.netlist.specs.Form.{cellBytes}
-use Rattle.netlist.proofs.PutLaws.{wrote-as}
+use Rattle.netlist.proofs.CellBytes.{cell-length}
 use borrow.Author.Needs.{needs}
 use Rattle.netlist.proofs.write.put_cell.Statement.{statement}
 use Rattle.netlist.proofs.write.put_cell.Tie as tie
 
+add-result : tie.Need-add-result
+add-result c = omega (arith, c .cell-size .ensures, cell-length (c .before .before .before .args .cell), c .before .before .before .pre)
+
 returns : tie.Need-returns
-returns c = wrote-as (ap cellBytes (c .before .before .before .before .before .cell .given .1)) (c .before .before .put-one .ensures)
-
-returns-2 : tie.Need-returns-2
-unfolding cellBytes
-returns-2 c = wrote-as (ap cellBytes (c .before .before .before .before .before .cell2 .given .1)) (c .before .before .put-both .ensures)
-
-returns-3 : tie.Need-returns-3
-returns-3 c = wrote-as (ap cellBytes (c .before .before .before .before .before .cell3 .given .1)) (c .before .before .put-mux .ensures)
-
-returns-4 : tie.Need-returns-4
-returns-4 c = wrote-as (ap cellBytes (c .before .before .before .before .before .cell4 .given .1)) (c .before .before .put-put .ensures)
-
-returns-5 : tie.Need-returns-5
-returns-5 c = wrote-as (ap cellBytes (c .before .before .before .before .before .cell5 .given .1)) (c .before .before .put-fixed .ensures)
-
-returns-6 : tie.Need-returns-6
-unfolding cellBytes
-returns-6 c = wrote-as (ap cellBytes (c .before .before .before .before .before .cell6 .given .1)) (c .before .before .put-both2 .ensures)
+returns c = wrote-outside (cellBytes (c .before .before .before .args .cell)) (omega (arith, c .before .if1 .taken)) (omega (arith, c .cell-size .ensures))
 
 pub put-cell-spec : {M : Type 1} → statement M
 put-cell-spec =
-    tie.close (tie.spec (λ c. search needs) (λ c κs. search needs) (λ c. search needs) (λ c κs. search needs)
-    (λ c. search needs) (λ c κs. search needs) (λ c. search needs) (λ c κs. search needs) (λ c. search needs)
-    (λ c κs. search needs) (λ c. search needs) (λ c κs. search needs) (λ c. search needs) returns (λ c. search needs)
-    returns-2 (λ c. search needs) returns-3 (λ c. search needs) returns-4 (λ c. search needs) returns-5
-    (λ c. search needs) returns-6)
+    tie.close
+    (tie.spec (λ c κs. search needs) add-result (λ c κs. search needs) returns (λ c. search needs) (λ c. search needs))
