@@ -39,7 +39,7 @@ use Rattle.translate_blocks.specs.Ends.{startFrom, startWords, drivesBy}
 use Rattle.translate_blocks.proofs.Bounds.{processes-bounded}
 use Rattle.translate_blocks.proofs.StartTurns.{start-count}
 use Rattle.translate_blocks.proofs.DriveTurns.{drives-few}
-use Rattle.translator.specs.Passes.{passedWords, passedCells, restOf, wholeOf, Passed, lengthOf, passAnswer, passBuffer}
+use Rattle.translator.specs.Passes.{passedWords, passedCells, restOf, wholeOf, Passed, LogRoom, lengthOf, passAnswer, passBuffer}
 
 -- how much a pass writes
 
@@ -94,6 +94,17 @@ module _ (widths marks firsts list : List ℕ) where
       Passed out 0 (wholeOf size declared widths marks firsts list) (passedCells widths list) out₃ at₃ count
   unfolding wholeOf
   whole-passed size declared head part rest = record { wrote = wrote-then head (wrote-then part (rest .wrote)); counted = rest .counted }
+
+-- a log of so many entries has room for a list of at most three times as many bytes
+pub log-enough : (entries : ℕ) {list slots words : List ℕ} → length slots ≡ entries → length words ≡ entries → entries ≤ longestModule →
+    length list ≤ 3 * entries → LogRoom list slots words
+log-enough entries slots-long words-long short enough = record { same = omega arith; enough = omega arith; short = omega arith }
+
+-- and keeps it, whatever is written into it
+pub log-stays : {list slots words slots₁ words₁ : List ℕ} → length slots₁ ≡ length slots → length words₁ ≡ length words → LogRoom list slots words →
+    LogRoom list slots₁ words₁
+log-stays {slots = slots} slots-kept words-kept room =
+    log-enough (length slots) slots-kept (omega (arith, room .same)) (room .short) (room .enough)
 
 -- how far the index has moved past the cells, and past the header
 pub cells-reach : (widths list : List ℕ) {out out₁ table₀ table₁ slots words slots₁ words₁ : List ℕ} {at at₁ count : ℕ} → length widths ≤ mostVariables →

@@ -2,8 +2,9 @@
 -- of its registers, and the first assignments to them.
 use mathlib.Core.Path.{_≡_}
 use mathlib.Core.List.{List, _∷_, _++_}
-use Prim.Native.Nat.{ℕ, _+_, _-_}
+use Prim.Native.Nat.{ℕ, _-_, _*_, _≤_}
 use lib.ListN.{length}
+use Rattle.tagged.specs.Limits.{longestModule}
 use Rattle.tagged.specs.Bytes.{twoBytes, Wrote}
 use Rattle.tagged.specs.Sorts.{tagOf}
 use Rattle.tagged.specs.Fields.{allBytesOf}
@@ -37,6 +38,12 @@ wholeOf size declared widths marks firsts list = (tagOf Sort.Netlist ∷ twoByte
 pub record Passed (out : List ℕ) (at : ℕ) (bytes : List ℕ) (cells : List Cell) (out′ : List ℕ) (at′ count : ℕ) : Type 0 where
   pub wrote : Wrote out at bytes out′ at′
   pub counted : count ≡ length cells
+
+-- the log of a case, in two tables of the same length, has an entry for every third byte of a list of processes
+pub record LogRoom (list slots words : List ℕ) : Type 0 where
+  pub same : length words ≡ length slots
+  pub enough : length list ≤ 3 * length slots
+  pub short : length slots ≤ longestModule
 
 module _ (declared widths marks firsts list : List ℕ) where
   -- how long the whole is, whatever stands in its header

@@ -1,47 +1,23 @@
--- `translator::passes::measure_and_write` meets its contract: it refuses by what the first pass measured, and else the second writes. Assumes nothing.
+-- `translator::passes::measure_and_write` meets its contract: whichever log it makes is enough for the list. Assumes nothing.
+use mathlib.Core.Path.{refl}
 use native.Mathlib.Omega.{arith}
-use Rattle.translator.proofs.PassSteps.{at-least, at-most, over-cells, over-room, both-passed}
+use Rattle.translator.proofs.PassSteps.{log-enough}
 use borrow.Author.Needs.{needs}
 use Rattle.translator.proofs.passes.measure_and_write.Statement.{statement}
 use Rattle.translator.proofs.passes.measure_and_write.Tie as tie
 
-enum-told : tie.Need-enum-told
-enum-told c = search needs
+both-passes-requires : tie.Need-both-passes-requires
+both-passes-requires c κs =
+    let at-if1 = c .before .before .before in
+    let asked = at-if1 .before .before .before .before .before .before .before .pre in
+    (log-enough _ refl (search needs) (search needs) (omega (arith, at-if1 .if1 .taken)), asked)
 
-returns : tie.Need-returns
-returns c =
-    let at-new = c .before .before in
-    let at-pass = at-new .before .before .before in
-    over-cells _ _ _ _ _ _ (at-pass .pass .ensures) _ (at-new .new .ensures) (c .enum-told .given .1)
-
-returns-2 : tie.Need-returns-2
-returns-2 c =
-    let at-enum-told2 = c .before .before in
-    let at-new = at-enum-told2 .before .before in
-    let at-pass = at-new .before .before .before in
-    over-room _ _ _ _ _ _ (at-pass .pass .ensures) _ _ (at-new .new .ensures) (at-enum-told2 .enum-told2 .given .1) (c .if1 .taken)
-
-sub-pass : tie.Need-sub-pass
-sub-pass c =
-    let at-pass = c .before .before .before .before .before .before .before .before in
-    at-least _ _ _ _ _ (at-pass .pass .ensures)
-
-cast-pass : tie.Need-cast-pass
-cast-pass c =
-    let at-pass = c .before .before .before .before .before .before .before .before in
-    let entry = at-pass .before .before .before .before .before .before .before .before in
-    omega (arith, at-most _ _ _ _ _ (at-pass .pass .ensures) (entry .pre .0) (entry .pre .1) (entry .pre .2))
-
-returns-3 : tie.Need-returns-3
-returns-3 c =
-    let at-pass2 = c .before .before in
-    let at-if1 = at-pass2 .before .before .before in
-    let at-enum-told2 = at-if1 .before .before in
-    let at-new = at-enum-told2 .before .before in
-    let at-pass = at-new .before .before .before in
-    both-passed _ _ _ _ _ _ (at-pass .pass .ensures) _ _ (at-new .new .ensures) (at-enum-told2 .enum-told2 .given .1) (at-if1 .if1 .left) (at-pass2 .pass2 .ensures)
+both-passes-requires-2 : tie.Need-both-passes-requires-2
+both-passes-requires-2 c κs =
+    let asked = c .before .before .before .before .before .before .before .before .before .before .pre in
+    (log-enough _ refl (search needs) (search needs) (omega (arith, asked .0)), asked)
 
 pub measure-and-write-spec : {M : Type 1} → statement M
 measure-and-write-spec =
-    tie.close (tie.spec (λ c. search needs) (λ c κs. search needs) (λ c. search needs) (λ c κs. search needs) enum-told
-    returns (λ c. search needs) returns-2 sub-pass cast-pass (λ c κs. search needs) (λ c. search needs) returns-3)
+    tie.close (tie.spec (λ c. search needs) (λ c. search needs) both-passes-requires (λ c. search needs)
+    (λ c. search needs) both-passes-requires-2 (λ c. search needs) (λ c. search needs) (λ c. search needs) (λ c. search needs))
