@@ -6,6 +6,7 @@ pub mod FormLaws
 pub mod PutLaws
 pub mod NextLaws
 pub mod RuleLaws
+pub mod RuleAnswers
 pub mod RuleWalks
 pub mod PartLaws
 pub mod RuleParts

@@ -234,7 +234,6 @@ pub record PayloadRead (base : ℕ) (l : List ℕ) : Type 0 where
   pub declared-within : passedBytes (declarationsStep 0 0 l) ≤ length l
   pub celled : cellsStep 0 0 (afterDeclarations l) ≡ Step.Past (passedBytes (cellsStep 0 0 (afterDeclarations l)))
   pub celled-bytes : drivesBase base (listsIn l) ≡ cellsBase base (listsIn l) + passedBytes (cellsStep 0 0 (afterDeclarations l))
-  pub celled-within : passedBytes (cellsStep 0 0 (afterDeclarations l)) ≤ length (afterDeclarations l)
 
 -- where the declarations take j bytes, and the cells k
 module _ (base owner : ℕ) (l : List ℕ) (h : AllBytes l) (j k : ℕ) (declared : declarationsStep base owner l ≡ Step.Past j)
@@ -336,7 +335,6 @@ module _ (base owner : ℕ) (l : List ℕ) (h : AllBytes l) (j k : ℕ) (declare
     declared-within = omega (arith, passed-declarations, listed-declarations .within);
     celled = past-cells ∙ ap (λ (s : Step). Step.Past (passedBytes s)) (sym past-cells);
     celled-bytes = omega (arith, base-cells, base-drives, ap passedBytes past-cells);
-    celled-within = omega (arith, ap passedBytes past-cells, listed-cells .within, ap length from-cells);
   }
 
 pub payload-read : (base owner : ℕ) (l : List ℕ) → AllBytes l → thenBy declarationsStep (thenBy cellsStep drivesJudge) base owner l ≡ Judged.Fine → PayloadRead base l

@@ -24,10 +24,11 @@ use Rattle.netlist.specs.Form.{cellBytes, driveBytes}
 use Rattle.netlist.specs.Rules.{cellBreaks, driveBreaks, wholeBroken, cellsBase, drivesBase, netlistBroken}
 use Rattle.netlist.specs.Answer.{netlistRules, listsAnswer}
 use Rattle.netlist.specs.Breaks.{Breaks, WholeBreaks, Unbroken, FirstPlace, ofField, ofWhole, RefusedFor}
-use Rattle.tagged.proofs.RefusalLaws.{at-not-nowhere, passes-nowhere, OneOf, one, other, at-one, one-at, Rising, order-rising, FirstRule}
+use Rattle.tagged.proofs.RefusalLaws.{at-not-nowhere, passes-nowhere, OneOf, one, other, at-one, one-at, FirstRule}
 use Rattle.tagged.proofs.RefusalLaws.{accepted-none, none-accepted, none-each, each-none, refused-first, first-refused, first-lower, lower-first, first-broken}
 use Rattle.tagged.proofs.PlaceLaws.{BrokenAt, nowhere-none, none-nowhere, broken-from, broken-below, at-broken, at-least, least-at}
 use Rattle.netlist.proofs.PassedRules.{cellBroken, driveBroken, RulePasses, nowhere-rule, rule-nowhere}
+use Rattle.netlist.proofs.RuleAnswers.{rising}
 use Rattle.netlist.proofs.BreakTests.{Tested, inDeclarations, inCells, inDrives, breaks-tested, tested-breaks}
 use Rattle.netlist.proofs.WholeTests.{WholeCase, wholly, notAtAll, whole-case}
 
@@ -235,11 +236,6 @@ module _ (base : ℕ) (n : Netlist) where
   rule-listed Rule.Buffer = not-tested Rule.Buffer (λ e d. refl) (λ e c. refl) (λ e d. refl) refl
   rule-listed Rule.Row = not-tested Rule.Row (λ e d. refl) (λ e c. refl) (λ e d. refl) refl
 
-  -- the rules are looked for in the order of their numbers
-  in-order : Rising 0 netlistRules
-  unfolding numberOf
-  in-order = order-rising 0 netlistRules refl
-
   refused-for : (rule : Rule) (p : ℕ) → listsAnswer base n ≡ Answer.Refused rule p → RefusedFor base n rule p
   unfolding listsAnswer
   refused-for rule p e = record {
@@ -251,7 +247,7 @@ module _ (base : ℕ) (n : Netlist) where
       f = refused-first (netlistBroken base n) netlistRules e
 
       go : (lower : Rule) → numberOf lower < numberOf rule → Listed lower → netlistBroken base n lower ≡ Found.Nowhere
-      go lower less (listed m) = first-lower (netlistBroken base n) in-order f lower m less
+      go lower less (listed m) = first-lower (netlistBroken base n) rising f lower m less
       go lower less (unlisted h) = h
 
   for-refused : (rule : Rule) (p : ℕ) → RefusedFor base n rule p → listsAnswer base n ≡ Answer.Refused rule p
@@ -260,7 +256,7 @@ module _ (base : ℕ) (n : Netlist) where
     where
       go : Listed rule → firstRefusal (netlistBroken base n) netlistRules ≡ Answer.Refused rule p
       go (listed m) = first-refused (netlistBroken base n)
-          (lower-first (netlistBroken base n) in-order m (place-at rule (r .place)) (λ lower i less. unbroken-nowhere lower (r .lowest lower less)))
+          (lower-first (netlistBroken base n) rising m (place-at rule (r .place)) (λ lower i less. unbroken-nowhere lower (r .lowest lower less)))
       go (unlisted h) = at-not-nowhere (sym (place-at rule (r .place)) ∙ h)
 
   accepted-for : listsAnswer base n ≡ Answer.Accepted → (rule : Rule) → Unbroken base n rule

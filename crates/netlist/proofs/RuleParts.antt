@@ -1,31 +1,33 @@
 -- The parts of a file to which refusals 1 and 2 do not apply, as the code that looks for the other refusals takes them.
 use mathlib.Core.Path.{_≡_, sym, ap, ap₂, _∙_, subst}
-use mathlib.Core.List.{List, []}
+use mathlib.Core.List.{List, [], map}
 use Prim.Native.Nat.{ℕ, _+_, _^_, _≤_}
 use native.Mathlib.Omega.{arith}
-use lib.ListN.{length, drop, length-drop}
+use lib.ListN.{length, take, drop, length-take, length-drop}
 use Rattle.tagged.specs.Bytes.{AllBytes}
-use Rattle.tagged.specs.Limits.{longestNetlist}
+use Rattle.tagged.specs.Limits.{mostVariables, longestNetlist}
 use Rattle.tagged.specs.Fields.{passedBytes, unplaced, placedBy}
 use Rattle.tagged.specs.Files.{fileAnswer}
-use Rattle.tagged.specs.Refusals.{firstBroken, orElse}
-use Rattle.tagged.specs.Declarations.{declarationsStep, declarationsAt, declarationsIn, declarationBreaks, declarationBroken, afterDeclarations}
+use Rattle.tagged.specs.Refusals.{firstBroken, firstRefusal}
+use Rattle.tagged.specs.Declarations.{Declaration, widthOf, declarationsStep, declarationsAt, declarationsIn, afterDeclarations}
+use Rattle.tagged.specs.Declarations.{declarationBreaks, declarationBroken, variableTable}
+use Rattle.tagged.specs.declared.declarations.VariableTable.{VariableTable}
+use Rattle.tagged.specs.declared.answers.Answer.{Answer}
 use Rattle.tagged.specs.declared.answers.Answer.the-variants as Answer
-use Rattle.tagged.specs.declared.answers.Found.{Found}
-use Rattle.tagged.specs.declared.answers.Found.the-variants as Found
 use Rattle.tagged.specs.declared.answers.Rule.{Rule}
-use Rattle.tagged.specs.declared.answers.Rule.the-variants as Rule
 use Rattle.tagged.specs.declared.fields.Step.the-variants as Step
 use Rattle.tagged.proofs.FileLaws.{file-fits}
-use Rattle.tagged.proofs.DeclarationSizes.{variables-few}
+use Rattle.tagged.proofs.LowerLaws.{refusal-same}
+use Rattle.tagged.proofs.TableLaws.{markOf, told-widths, told-marks, marks-long}
 use Rattle.netlist.specs.Lists.{Netlist}
 use Rattle.netlist.specs.Form.{cellBytes, driveBytes, cellsStep, netlistForm}
 use Rattle.netlist.specs.Reading.{cellsAt, drivesAt, listsIn, netlistIn}
-use Rattle.netlist.specs.Rules.{cellBreaks, driveBreaks, wholeBroken, cellsBase, drivesBase, netlistBroken}
-use Rattle.netlist.specs.RuleTests.{mostListed}
+use Rattle.netlist.specs.Rules.{registersFrom, cellsBase, drivesBase}
+use Rattle.netlist.specs.Answer.{netlistRules}
+use Rattle.netlist.specs.RuleTests.{listAnswer, cellsEnd, partsAnswer, declaring, restAnswer, KnownVariables, mostListed}
 use Rattle.netlist.proofs.NetlistBytes.{PayloadRead, written-read}
-use Rattle.tagged.proofs.RefusalLaws.{found-first, found-second}
-use Rattle.netlist.proofs.RuleLaws.{few-cells, names-alone, counts-alone}
+use Rattle.netlist.proofs.RuleLaws.{few-cells}
+use Rattle.netlist.proofs.RuleWalks.{front-known}
 
 -- the payload of the file
 module _ (file : List ℕ) (bytes : AllBytes file) (accepted : fileAnswer longestNetlist file ≡ Answer.Accepted) (formed : netlistForm file ≡ Step.Past (length file))
@@ -36,10 +38,10 @@ module _ (file : List ℕ) (bytes : AllBytes file) (accepted : fileAnswer longes
   read : PayloadRead 3 payload
   read = subst (λ (l : List ℕ). PayloadRead 3 l) (sym part) (written-read file (length file) bytes accepted formed .payload)
 
-  pub netlist-lists : netlistIn file ≡ listsIn payload
+  netlist-lists : netlistIn file ≡ listsIn payload
   netlist-lists = ap listsIn (sym part)
 
-  pub netlist-declarations : netlistIn file .declarations ≡ declarationsIn payload
+  netlist-declarations : netlistIn file .declarations ≡ declarationsIn payload
   unfolding listsIn
   netlist-declarations = ap declarationsIn (sym part)
 
@@ -47,23 +49,33 @@ module _ (file : List ℕ) (bytes : AllBytes file) (accepted : fileAnswer longes
   declared-place rule =
       ap (firstBroken (declarationBreaks rule) []) (read .declarations-placed) ∙ ap (λ (n : Netlist). declarationBroken rule 3 (n .declarations)) (sym netlist-lists)
 
-  -- rules 4 and 5
-  module _ (found : Found) where
-    pub name-place : found ≡ firstBroken (declarationBreaks Rule.Name) [] (declarationsAt 3 payload) → found ≡ netlistBroken 3 (netlistIn file) Rule.Name
-    name-place e = e ∙ declared-place Rule.Name ∙ names-alone 3 (netlistIn file)
+  -- what the declarations are refused for
+  pub declared-placed : {answer : Answer} → answer ≡ listAnswer declarationBreaks [] (declarationsAt 3 payload) →
+      answer ≡ firstRefusal (λ rule. declarationBroken rule 3 (netlistIn file .declarations)) netlistRules
+  unfolding listAnswer
+  declared-placed e = e ∙ refusal-same _ _ declared-place netlistRules
 
-    pub count-place : found ≡ firstBroken (declarationBreaks Rule.Count) [] (declarationsAt 3 payload) → found ≡ netlistBroken 3 (netlistIn file) Rule.Count
-    count-place e = e ∙ declared-place Rule.Count ∙ counts-alone 3 (netlistIn file)
+  -- what a table of the declarations tells of the first 64
+  module _ {table : VariableTable} (made : table ≡ variableTable (declarationsIn payload)) where
+    count-is : table .count ≡ length (declarationsIn payload)
+    unfolding variableTable
+    count-is = ap (λ (t : VariableTable). t .count) made
 
-    pub few-declared : found ≡ firstBroken (declarationBreaks Rule.Count) [] (declarationsAt 3 payload) → found ≡ Found.Nowhere
-        → length (netlistIn file .declarations) ≤ 64
-    few-declared e none = variables-few 3 (netlistIn file .declarations) (sym (declared-place Rule.Count) ∙ sym e ∙ none)
+    pub first-known : {variables marks numbers : List ℕ} → variables ≡ take (table .count) (table .widths) → marks ≡ take (table .count) (table .registers) →
+        ((ds : List Declaration) → map markOf ds ≡ marks → numbers ≡ registersFrom 0 ds) →
+        KnownVariables (take mostVariables (netlistIn file .declarations)) variables numbers
+    first-known widths marks numbers = record {
+      widths =
+          ap (λ (ds : List Declaration). map widthOf (take mostVariables ds)) netlist-declarations
+          ∙ front-known widthOf mostVariables (declarationsIn payload) count-is (told-widths (declarationsIn payload) table made) ∙ sym widths;
+      numbers =
+          ap (λ (ds : List Declaration). registersFrom 0 (take mostVariables ds)) netlist-declarations
+          ∙ sym (numbers (take mostVariables (declarationsIn payload))
+          (front-known markOf mostVariables (declarationsIn payload) count-is (told-marks (declarationsIn payload) table made) ∙ sym marks));
+    }
 
-  -- the rule is broken by a declaration
-  pub declared-first : (rule : Rule) (found : Found) (place : ℕ) → found ≡ firstBroken (declarationBreaks rule) [] (declarationsAt 3 payload) → found ≡ Found.At place →
-      Found.At place ≡ netlistBroken 3 (netlistIn file) rule
-  unfolding netlistBroken
-  declared-first rule found place e at = found-first _ (e ∙ declared-place rule) at
+    pub first-few : {marks : List ℕ} → marks ≡ take (table .count) (table .registers) → length marks ≤ mostVariables
+    first-few marks = omega (arith, ap length marks, length-take (table .count) (table .registers), marks-long (declarationsIn payload) table made)
 
   -- what follows the declarations
   module _ (taken : ℕ) (count : taken ≡ passedBytes (declarationsStep 0 0 payload)) (after : List ℕ) (rest : after ≡ drop taken payload) where
@@ -73,13 +85,12 @@ module _ (file : List ℕ) (bytes : AllBytes file) (accepted : fileAnswer longes
     pub taken-few : taken ≤ 32765
     taken-few = omega (arith, count, read .declared-within, payload-long)
 
-    pub after-asked : (3 + taken + length after ≤ 2 ^ 40) × (cellsStep 0 0 after ≡ Step.Past (passedBytes (cellsStep 0 0 after)))
-        × (passedBytes (cellsStep 0 0 after) ≤ length after) × (length (unplaced (cellsAt 0 after)) ≤ mostListed)
+    pub after-asked : (3 + taken + length after ≤ 2 ^ 40) × (cellsStep 0 0 after ≡ Step.Past (cellsEnd after))
+        × (length (unplaced (cellsAt 0 after)) ≤ mostListed)
     unfolding listsIn
     after-asked = (
       omega (arith, taken-few, payload-long, ap length rest, length-drop taken payload),
-      subst (λ (l : List ℕ). cellsStep 0 0 l ≡ Step.Past (passedBytes (cellsStep 0 0 l))) (sym after-is) (read .celled),
-      subst (λ (l : List ℕ). passedBytes (cellsStep 0 0 l) ≤ length l) (sym after-is) (read .celled-within),
+      subst (λ (l : List ℕ). cellsStep 0 0 l ≡ Step.Past (cellsEnd l)) (sym after-is) (read .celled),
       subst (λ (l : List ℕ). length (unplaced (cellsAt 0 l)) ≤ mostListed) (sym after-is)
           (few-cells (listsIn payload) (omega (arith, ap length (read .written), payload-long))),
     )
@@ -88,9 +99,9 @@ module _ (file : List ℕ) (bytes : AllBytes file) (accepted : fileAnswer longes
     unfolding listsIn
     netlist-cells = ap (λ (l : List ℕ). listsIn l .cells) (sym part) ∙ ap (λ (l : List ℕ). unplaced (cellsAt 0 l)) (sym after-is)
 
-    pub netlist-drives : netlistIn file .drives ≡ unplaced (drivesAt 0 (drop (passedBytes (cellsStep 0 0 after)) after))
+    pub netlist-drives : netlistIn file .drives ≡ unplaced (drivesAt 0 (drop (cellsEnd after) after))
     unfolding listsIn
-    netlist-drives = ap (λ (l : List ℕ). listsIn l .drives) (sym part) ∙ ap (λ (l : List ℕ). unplaced (drivesAt 0 (drop (passedBytes (cellsStep 0 0 l)) l)))
+    netlist-drives = ap (λ (l : List ℕ). listsIn l .drives) (sym part) ∙ ap (λ (l : List ℕ). unplaced (drivesAt 0 (drop (cellsEnd l) l)))
         (sym after-is)
 
     cells-place : cellsAt (3 + taken) after ≡ placedBy cellBytes (cellsBase 3 (netlistIn file)) (netlistIn file .cells)
@@ -98,19 +109,16 @@ module _ (file : List ℕ) (bytes : AllBytes file) (accepted : fileAnswer longes
         ap₂ cellsAt (ap (λ (k : ℕ). 3 + k) count ∙ sym (read .declared-bytes)) after-is ∙ read .cells-placed
         ∙ ap (λ (n : Netlist). placedBy cellBytes (cellsBase 3 n) (n .cells)) (sym netlist-lists)
 
-    drives-place : drivesAt (3 + taken + passedBytes (cellsStep 0 0 after)) (drop (passedBytes (cellsStep 0 0 after)) after)
+    drives-place : drivesAt (3 + taken + cellsEnd after) (drop (cellsEnd after) after)
         ≡ placedBy driveBytes (drivesBase 3 (netlistIn file)) (netlistIn file .drives)
     drives-place =
-        ap₂ (λ (b : ℕ) (l : List ℕ). drivesAt (b + passedBytes (cellsStep 0 0 l)) (drop (passedBytes (cellsStep 0 0 l)) l))
+        ap₂ (λ (b : ℕ) (l : List ℕ). drivesAt (b + cellsEnd l) (drop (cellsEnd l) l))
         (ap (λ (k : ℕ). 3 + k) count ∙ sym (read .declared-bytes)) after-is
-        ∙ ap (λ (b : ℕ). drivesAt b (drop (passedBytes (cellsStep 0 0 (afterDeclarations payload))) (afterDeclarations payload))) (sym (read .celled-bytes))
+        ∙ ap (λ (b : ℕ). drivesAt b (drop (cellsEnd (afterDeclarations payload)) (afterDeclarations payload))) (sym (read .celled-bytes))
         ∙ read .drives-placed ∙ ap (λ (n : Netlist). placedBy driveBytes (drivesBase 3 n) (n .drives)) (sym netlist-lists)
 
-    -- no declaration breaks the rule: what the others give
-    pub declared-none : (rule : Rule) (found later : Found) → found ≡ firstBroken (declarationBreaks rule) [] (declarationsAt 3 payload) → found ≡ Found.Nowhere
-        → later ≡ orElse (firstBroken (cellBreaks rule (netlistIn file .declarations)) [] (cellsAt (3 + taken) after))
-        (orElse (firstBroken (driveBreaks rule (netlistIn file .declarations) (netlistIn file .cells)) []
-        (drivesAt (3 + taken + passedBytes (cellsStep 0 0 after)) (drop (passedBytes (cellsStep 0 0 after)) after))) (wholeBroken rule (netlistIn file)))
-        → later ≡ netlistBroken 3 (netlistIn file) rule
-    unfolding netlistBroken
-    declared-none rule found later e none more = found-second (e ∙ declared-place rule) none (rw (cells-place, drives-place) at more)
+    -- what the rest is refused for, if these are the declarations
+    pub rest-placed : (ds : List Declaration) {answer : Answer} →
+        answer ≡ partsAnswer (3 + taken) after (declaring ds (netlistIn file)) → answer ≡ restAnswer 3 (netlistIn file) ds
+    unfolding partsAnswer restAnswer
+    rest-placed ds e = rw (cells-place, drives-place) at e

@@ -1,26 +1,22 @@
 -- One turn of each loop over a list of cells or of drives, which has come to the index `at`, and what is known at its end.
-use mathlib.Core.Path.{_≡_, refl, sym, ap, ap₂, _∙_}
-use mathlib.Core.Bool.{Bool, true, false, true≢false}
+use mathlib.Core.Path.{_≡_, refl, sym, ap, ap₂, _∙_, subst}
+use mathlib.Core.Bool.{true≢false}
 use mathlib.Core.List.{List, [], _∷_, _++_, map}
 use Prim.Native.Nat.{ℕ, zero, suc, _+_, _-_, _≤_, _<_}
 use native.Mathlib.Omega.{arith}
-use lib.ListN.{length, take, drop, set, replicate, length-drop, length-map}
-use lib.Seq.{drop-drop, take-add, length-take-le, set-out}
+use lib.ListN.{length, take, drop, set, replicate, length-drop, length-map, length-set, length-replicate}
+use lib.Seq.{drop-drop, take-add, length-take-le, take-suc-set}
 use Rattle.tagged.specs.Sorts.{isCell}
-use Rattle.tagged.specs.Fields.{Placed, unplaced, sizeOf}
-use Rattle.tagged.specs.Refusals.{firstBroken}
+use Rattle.tagged.specs.Fields.{unplaced, sizeOf}
 use Rattle.tagged.specs.Declarations.{tableOf}
-use Rattle.tagged.specs.declared.answers.Found.{Found}
-use Rattle.tagged.specs.declared.answers.Found.the-variants as Found
-use Rattle.tagged.specs.declared.fields.Step.{Step}
 use Rattle.tagged.specs.declared.fields.Step.the-variants as Step
 use Rattle.tagged.specs.declared.sorts.CellSort.{CellSort}
 use Rattle.tagged.specs.declared.sorts.Sort.{Sort}
 use Rattle.tagged.specs.declared.sorts.Sort.the-variants as Sort
 use Rattle.tagged.proofs.ByteLaws.{rest}
-use Rattle.tagged.proofs.FieldLaws.{whole-open}
+use Rattle.tagged.proofs.FieldLaws.{Whole, whole-open}
 use Rattle.tagged.proofs.ListBytes.{Run, stop, more, many-run}
-use Rattle.tagged.proofs.TableLaws.{table-length, table-more, mapped}
+use Rattle.tagged.proofs.TableLaws.{mapped}
 use Rattle.tagged.proofs.DeclarationWalks.{step, payload}
 use Rattle.netlist.specs.declared.Cell.{Cell}
 use Rattle.netlist.specs.declared.Drive.{Drive}
@@ -65,6 +61,9 @@ module _ (l : List ℕ) (at : ℕ) (next : NextCell) (found : next ≡ nextCellI
   pub cell-ended : (base : ℕ) → next ≡ NextCell.Ended → cellsAt base (drop at l) ≡ []
   cell-ended base e = next-cell-ended base (drop at l) (sym (rw rest at found) ∙ e)
 
+  pub cell-none : next ≡ NextCell.Ended → cellsOf (drop at l) ≡ []
+  cell-none e = ap unplaced (cell-ended 0 e)
+
 -- the drive that stands there
 module _ (l : List ℕ) (at : ℕ) (next : NextDrive) (found : next ≡ nextDriveIn (take (length l - at) (drop at l))) where
   pub drive-within : (n : ℕ) → next ≡ NextDrive.Drive n → at + 3 + n ≤ length l
@@ -87,6 +86,9 @@ module _ (l : List ℕ) (at : ℕ) (next : NextDrive) (found : next ≡ nextDriv
   pub drive-ended : (base : ℕ) → next ≡ NextDrive.Ended → drivesAt base (drop at l) ≡ []
   drive-ended base e = next-drive-ended base (drop at l) (sym (rw rest at found) ∙ e)
 
+  pub drive-none : next ≡ NextDrive.Ended → drivesOf (drop at l) ≡ []
+  drive-none e = ap unplaced (drive-ended 0 e)
+
 -- so many of a list have been passed, within so many bytes, and these are left
 pub record Walked {A : Type 0} (items left : List A) (count at : ℕ) : Type 0 where
   pub ahead : drop count items ≡ left
@@ -105,13 +107,13 @@ module _ {A : Type 0} {items left : List A} {count at : ℕ} (walked : Walked it
   walked-earlier = length-take-le count items (walked .counted)
 
   module _ {a : A} {after : List A} (next : left ≡ a ∷ after) where
-    fewer : count < length items
-    fewer = omega (arith, ap length (walked .ahead ∙ next), length-drop count items)
+    walked-fewer : count < length items
+    walked-fewer = omega (arith, ap length (walked .ahead ∙ next), length-drop count items)
 
     pub walked-more : {further : ℕ} → at < further → Walked items after (count + 1) further
     walked-more h = record {
       ahead = sym (drop-drop 1 count items) ∙ ap (drop 1) (walked .ahead ∙ next);
-      counted = omega (arith, fewer);
+      counted = omega (arith, walked-fewer);
       sized = omega (arith, walked .sized);
     }
 
@@ -119,75 +121,86 @@ module _ {A : Type 0} {items left : List A} {count at : ℕ} (walked : Walked it
     pub walked-before : take (count + 1) items ≡ take count items ++ (a ∷ [])
     walked-before = take-add count 1 items ∙ ap (λ (y : List A). take count items ++ take 1 y) (walked .ahead ∙ next)
 
--- the first that breaks a rule, after those in `earlier`
-module _ {A : Type 0} (breaks : List A → A → Bool) (whole : Found) (earlier : List A) (left : List (Placed A)) (going : whole ≡ firstBroken breaks earlier left) where
-  pub broken-none : left ≡ [] → Found.Nowhere ≡ whole
-  unfolding firstBroken
-  broken-none e = sym (going ∙ rw e)
-
-  module _ (x : Placed A) (after : List (Placed A)) (next : left ≡ x ∷ after) where
-    pub broken-here : breaks earlier (x .what) ≡ true → Found.At (x .place) ≡ whole
-    unfolding firstBroken
-    broken-here e = sym (going ∙ rw (next, e))
-
-    pub broken-later : breaks earlier (x .what) ≡ false → {longer : List A} → longer ≡ earlier ++ (x .what ∷ []) → whole ≡ firstBroken breaks longer after
-    unfolding firstBroken
-    broken-later e before = going ∙ rw (next, e, before)
-
 -- the numbers of the first ones of a list
-pub map-take : {A : Type 0} (f : A → ℕ) (n : ℕ) (l : List A) → map f (take n l) ≡ take n (map f l)
+map-take : {A : Type 0} (f : A → ℕ) (n : ℕ) (l : List A) → map f (take n l) ≡ take n (map f l)
 map-take f zero l = refl
 map-take f (suc n) [] = refl
 map-take f (suc n) (a ∷ l) = ap (λ (y : List ℕ). f a ∷ y) (map-take f n l)
 
--- the bytes of the cells, by the step over them: what is left of them at the index `at`
-abbrev pub CellsLeft : List ℕ → ℕ → Type 0
-CellsLeft l at = (m : ℕ) → cellsStep 0 0 l ≡ Step.Past m → (k : ℕ) × Run isCell cellBody at (drop at l) k × (at + k ≡ m)
+-- the bytes of cells that are still to be passed, of `m` in all
+pub record CellsLeft (l : List ℕ) (at m : ℕ) : Type 0 where
+  pub bytes : ℕ
+  pub run : Run isCell cellBody at (drop at l) bytes
+  pub all : at + bytes ≡ m
 
-pub left-start : (l : List ℕ) → CellsLeft l 0
+pub left-start : (l : List ℕ) (m : ℕ) → cellsStep 0 0 l ≡ Step.Past m → CellsLeft l 0 m
 unfolding cellsStep
-left-start l m e = (m, many-run isCell cellBody (length l) 0 0 l m (omega arith) e, omega arith)
+left-start l m e = record { bytes = m; run = many-run isCell cellBody (length l) 0 0 l m (omega arith) e; all = omega arith }
 
-run-ended : {base : ℕ} {l : List ℕ} {k : ℕ} → Run isCell cellBody base l k → nextCellIn l ≡ NextCell.Ended → k ≡ 0
-unfolding nextCellIn
-run-ended (stop off) e = refl
-run-ended {l = l} (more p is tail) e = absurd (let f = cell-sort (p .sort) is in let q = sym
-    (rw (whole-open 0 0 l (p .whole), f .1) at e) in let z : _≡_ {A = ℕ} 0 1 = cc in omega arith)
-
-run-next : {base : ℕ} {l : List ℕ} {k : ℕ} (c : CellSort) (n : ℕ) → Run isCell cellBody base l k → nextCellIn l ≡ NextCell.Cell c n →
+-- a whole cell at the front is one that a run passes first
+run-more : (base : ℕ) (l : List ℕ) (k : ℕ) (c : CellSort) (n : ℕ) → Whole l (Sort.Cell c) n → Run isCell cellBody base l k →
     (j : ℕ) × Run isCell cellBody (base + (n + 3)) (drop (n + 3) l) j × (n + 3 + j ≡ k)
-run-next {l = l} c n (stop off) e = absurd (true≢false (off (Sort.Cell c) n (next-cell-whole l c n e)))
-run-next {base} {l} c n (more {m = m} {k = j} p is tail) e =
-    let size : m ≡ n + 3 = omega (arith, p .bytes, p .whole .size, next-cell-whole l c n e .size) in
-    (j, rw size at tail, omega arith)
+run-more base l k c n w (stop none) = absurd (true≢false (none (Sort.Cell c) n w))
+run-more base l k c n w (more {m} {k = j} p is later) =
+    let size : m ≡ n + 3 = p .bytes ∙ ap (λ (x : ℕ). x + 3) (p .whole .size ∙ sym (w .size)) in
+    (j, rw (← size) later, rw (← size))
 
-module _ (l : List ℕ) (at : ℕ) (next : NextCell) (found : next ≡ nextCellIn (take (length l - at) (drop at l))) (left : CellsLeft l at) where
-  pub left-more : (c : CellSort) (n : ℕ) → next ≡ NextCell.Cell c n → CellsLeft l (at + 3 + n)
-  left-more c n e m past =
-      let now = left m past in
-      let f = run-next c n (now .1) (sym (rw rest at found) ∙ e) in
+-- where no cell stands a run is at its end
+run-none : (base : ℕ) (l : List ℕ) (k : ℕ) → nextCellIn l ≡ NextCell.Ended → Run isCell cellBody base l k → k ≡ 0
+unfolding nextCellIn
+run-none base l k e (stop none) = refl
+run-none base l k e (more {m} {k = j} p is later) =
+    let f = cell-sort (p .sort) is in
+    let w : Whole l (Sort.Cell (f .0)) (p .size) = subst (λ (s : Sort). Whole l s (p .size)) (f .1) (p .whole) in
+    let q : NextCell.Cell (f .0) (p .size) ≡ NextCell.Ended = rw (whole-open 0 0 l w) at e in
+    absurd (let z : _≡_ {A = ℕ} 0 1 = cc in omega arith)
+
+module _ (l : List ℕ) (at : ℕ) (next : NextCell) (found : next ≡ nextCellIn (take (length l - at) (drop at l))) where
+  pub left-more : (m : ℕ) → CellsLeft l at m → (c : CellSort) (n : ℕ) → next ≡ NextCell.Cell c n → CellsLeft l (at + 3 + n) m
+  left-more m p c n e =
+      let r = run-more at (drop at l) (p .bytes) c n (next-cell-whole (drop at l) c n (sym (rw rest at found) ∙ e)) (p .run) in
       let sum : at + (n + 3) ≡ at + 3 + n = omega arith in
-      (f .0, rw (step at n l, sum) at (f .1), omega (arith, f .2, now .2))
+      record { bytes = r .0; run = rw (step at n l, sum) at (r .1); all = omega (arith, r .2, p .all) }
 
-  pub left-none : next ≡ NextCell.Ended → (m : ℕ) → cellsStep 0 0 l ≡ Step.Past m → at ≡ m
-  left-none e m past = let now = left m past in omega (arith, run-ended (now .1) (sym (rw rest at found) ∙ e), now .2)
+  pub left-none : (m : ℕ) → CellsLeft l at m → next ≡ NextCell.Ended → at ≡ m
+  left-none m p e = omega (arith, run-none at (drop at l) (p .bytes) (sym (rw rest at found) ∙ e) (p .run), p .all)
 
--- a table filled one by one
-pub table-none : (n : ℕ) → replicate n 0 ≡ tableOf n []
+-- a table with room for so many numbers, which holds those of the elements passed
+pub record Tabled {A : Type 0} (f : A → ℕ) (room : ℕ) (items : List A) (count : ℕ) (table : List ℕ) : Type 0 where
+  pub long : length table ≡ room
+  pub held : map f (take count items) ≡ take count table
+
+pub tabled-start : {A : Type 0} (f : A → ℕ) (room : ℕ) (items : List A) → Tabled f room items 0 (replicate room 0)
+tabled-start f room items = record { long = length-replicate room 0; held = refl }
+
+module _ {A : Type 0} {f : A → ℕ} {room : ℕ} {items left : List A} {count at : ℕ} {table : List ℕ} (walked : Walked items left count at)
+    (tabled : Tabled f room items count table) (few : length items ≤ room) where
+  pub tabled-within : count ≤ length table
+  tabled-within = omega (arith, tabled .long, walked .counted, few)
+
+  module _ {a : A} {after : List A} (next : left ≡ a ∷ after) where
+    pub tabled-room : count < room
+    tabled-room = omega (arith, walked-fewer walked next, few)
+
+    pub tabled-more : {number : ℕ} → number ≡ f a → Tabled f room items (count + 1) (set table count number)
+    tabled-more {number} own =
+        let one : suc count ≡ count + 1 = omega arith in
+        record {
+          long = length-set table count number ∙ tabled .long;
+          held =
+              ap (map f) (walked-before walked next) ∙ mapped f (take count items) a ∙ ap₂ (λ (l : List ℕ) (x : ℕ). l ++ (x ∷ [])) (tabled .held) (sym own)
+              ∙ sym (rw one at (take-suc-set table count number (omega (arith, tabled-room, tabled .long))));
+        }
+
+-- the first of a list stand in the front of its table
+table-cut : (n : ℕ) (l : List ℕ) → take (length l) (tableOf n l) ≡ take n l
 unfolding tableOf
-table-none zero = refl
-table-none (suc n) = ap (λ (y : List ℕ). 0 ∷ y) (table-none n)
+table-cut zero [] = refl
+table-cut zero (x ∷ l) = refl
+table-cut (suc n) [] = refl
+table-cut (suc n) (x ∷ l) = ap (λ (y : List ℕ). x ∷ y) (table-cut n l)
 
-module _ {A : Type 0} (f : A → ℕ) (room : ℕ) (items : List A) (count at : ℕ) (left : List A) (walked : Walked items left count at) (a : A) (after : List A)
-    (next : left ≡ a ∷ after)
-    (table : List ℕ) (held : table ≡ tableOf room (map f (take count items))) (number : ℕ) (own : number ≡ f a) where
-  pub table-set : set table count number ≡ tableOf room (map f (take (count + 1) items))
-  table-set =
-      let long : count ≡ length (map f (take count items)) = sym (length-map (take count items) f ∙ walked-earlier walked) in
-      ap₂ (λ (t : List ℕ) (n : ℕ). set t count n) held own
-      ∙ ap (λ (k : ℕ). set (tableOf room (map f (take count items))) k (f a)) long
-      ∙ table-more room (map f (take count items)) (f a)
-      ∙ ap (tableOf room) (sym (ap (map f) (walked-before walked next) ∙ mapped f (take count items) a))
-
-  pub table-full : room ≤ count → table ≡ tableOf room (map f (take (count + 1) items))
-  table-full h = sym (set-out table count number (omega (arith, ap length held, table-length room (map f (take count items))))) ∙ table-set
+pub front-known : {A : Type 0} (f : A → ℕ) (room : ℕ) (items : List A) {count : ℕ} {table : List ℕ} →
+    count ≡ length items → table ≡ tableOf room (map f items) → map f (take room items) ≡ take count table
+front-known f room items all held =
+    map-take f room items ∙ sym (ap₂ take (all ∙ sym (length-map items f)) held ∙ table-cut room (map f items))

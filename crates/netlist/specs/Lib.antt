@@ -3,8 +3,8 @@ pub mod Lists
 pub mod Form
 pub mod Reading
 pub mod Rules
-pub mod RuleTests
 pub mod Answer
+pub mod RuleTests
 pub mod Cycle
 pub mod Fits
 pub mod Breaks

@@ -1,30 +1,40 @@
 // Cells and drives read from parts of a netlist file, by total functions: what is malformed is the end of a list.
 ghost use mathlib.Core.Path.{_≡_};
 ghost use lib.ListN.{drop};
-ghost use Rattle.netlist.specs.Reading.{operandIn, cellIn, driveIn, nextCellIn, nextDriveIn};
+ghost use Rattle.netlist.specs.Reading.{operandOf, operandIn, cellIn, driveIn, nextCellIn, nextDriveIn};
 use crate::Cell;
 use crate::Drive;
 use crate::Operand;
 use tagged::bytes::byte_at;
 use tagged::bytes::four_of;
 use tagged::bytes::from;
+use tagged::bytes::number_of_four;
 use tagged::fields::Opened;
 use tagged::fields::open_field;
 use tagged::sorts::CellSort;
 use tagged::sorts::Sort;
 
-// The operand in the first six bytes.
-pub fn operand_in(part: &[u8]) -> Operand
-    ensures { λ r. ⌜ r ≡ operandIn (now (part .entry)) ⌝ }
+// The operand of this kind and width.
+fn operand_of(kind: u8, width: u8, number: u32) -> Operand
+    ensures { λ r. ⌜ r ≡ operandOf kind width number ⌝ }
 {
-    let kind = byte_at(part, 0);
-    let width = byte_at(part, 1);
-    let number = four_of(from(part, 2));
     match kind {
         0 => Operand::Constant(width, number),
         1 => Operand::Variable(width, number),
         _ => Operand::Cell(width, number),
     }
+}
+
+// The operand in the first six bytes; what is missing counts as 0.
+pub fn operand_in(part: &[u8]) -> Operand
+    ensures { λ r. ⌜ r ≡ operandIn (now (part .entry)) ⌝ }
+{
+    if part.len() < 6 {
+        let number = four_of(from(part, 2));
+        return operand_of(byte_at(part, 0), byte_at(part, 1), number);
+    }
+    let number = number_of_four(part[2], part[3], part[4], part[5]);
+    operand_of(part[0], part[1], number)
 }
 
 // The operand that starts at an index of a payload.
@@ -40,14 +50,18 @@ pub fn cell_in(sort: CellSort, payload: &[u8]) -> Cell
 {
     let width = byte_at(payload, 0);
     let first = operand_at(payload, 1);
-    let second = operand_at(payload, 7);
     match sort {
         CellSort::One(op) => Cell::One(op, width, first),
-        CellSort::Two(op) => Cell::Two(op, width, first, second),
-        CellSort::Mux => Cell::Mux(width, first, second, operand_at(payload, 13)),
+        CellSort::Two(op) => Cell::Two(op, width, first, operand_at(payload, 7)),
+        CellSort::Mux => Cell::Mux(
+            width,
+            first,
+            operand_at(payload, 7),
+            operand_at(payload, 13),
+        ),
         CellSort::Put => Cell::Put(width, first, byte_at(payload, 7), operand_at(payload, 8)),
         CellSort::FixedBit => Cell::FixedBit(width, first, byte_at(payload, 7)),
-        CellSort::ChosenBit => Cell::ChosenBit(width, first, second),
+        CellSort::ChosenBit => Cell::ChosenBit(width, first, operand_at(payload, 7)),
     }
 }
 

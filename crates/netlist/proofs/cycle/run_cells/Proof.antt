@@ -7,7 +7,8 @@ use Rattle.tagged.specs.declared.fields.Step.the-variants as Step
 use Rattle.netlist.specs.Form.{cellsStep}
 use Rattle.netlist.specs.Reading.{cellIn, cellsAt}
 use Rattle.netlist.specs.Numbers.{cellNumber, cellNumbers}
-use Rattle.netlist.proofs.RunWalks.{CellsLeft, left-start, cell-within, cell-more, cell-none, left-more, left-none, numbers-turn, numbers-done}
+use Rattle.netlist.proofs.RuleWalks.{CellsLeft, left-start, cell-within, cell-more, cell-none, left-more, left-none}
+use Rattle.netlist.proofs.RunWalks.{numbers-turn, numbers-done}
 use borrow.Author.Needs.{needs}
 use native.Mathlib.Omega.{arith}
 use Rattle.netlist.proofs.cycle.run_cells.Statement.{statement}

@@ -5,7 +5,8 @@ use lib.ListN.{length, drop, length-set}
 use Rattle.tagged.specs.Fields.{unplaced}
 use Rattle.netlist.specs.Reading.{driveIn, drivesAt}
 use Rattle.netlist.specs.Numbers.{drivenNumbers}
-use Rattle.netlist.proofs.RunWalks.{drive-within, drive-more, drive-none, driven-turn, driven-done}
+use Rattle.netlist.proofs.RuleWalks.{drive-within, drive-more, drive-none}
+use Rattle.netlist.proofs.RunWalks.{driven-turn, driven-done}
 use borrow.Author.Needs.{needs}
 use native.Mathlib.Omega.{arith}
 use Rattle.netlist.proofs.cycle.run_drives.Statement.{statement}

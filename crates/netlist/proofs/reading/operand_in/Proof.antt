@@ -1,60 +1,37 @@
--- `netlist::reading::operand_in` meets its contract: each arm rewrites with the kind that led to it. Assumes nothing.
-use borrow.Author.Tests.{ne-eqb}
+-- `netlist::reading::operand_in` meets its contract: the kind, the width and the number are those of the bytes, read at once or one by one. Assumes nothing.
+use mathlib.Core.Path.{_≡_}
+use mathlib.Core.List.{List}
+use Prim.Native.Nat.{ℕ}
+use lib.ListN.{getD, drop}
+use lib.Seq.{getD-drop}
+use Rattle.tagged.specs.Bytes.{numberOfFour, fourOf}
 use Rattle.netlist.specs.Reading.{operandIn}
 use borrow.Author.Needs.{needs}
 use Rattle.netlist.proofs.reading.operand_in.Statement.{statement}
 use Rattle.netlist.proofs.reading.operand_in.Tie as tie
 
-byte-at-requires : tie.Need-byte-at-requires
-byte-at-requires c κs = search needs
-
-byte-at-requires-2 : tie.Need-byte-at-requires-2
-byte-at-requires-2 c κs = search needs
-
-from-requires : tie.Need-from-requires
-from-requires c κs = search needs
-
-four-of-requires : tie.Need-four-of-requires
-four-of-requires c κs = search needs
+-- the number in the third to the sixth byte
+after-two : (l : List ℕ) → numberOfFour (getD l 2 0) (getD l 3 0) (getD l 4 0) (getD l 5 0) ≡ fourOf (drop 2 l)
+unfolding fourOf
+after-two l = rw (getD-drop 2 l 0 0, getD-drop 2 l 1 0, getD-drop 2 l 2 0, getD-drop 2 l 3 0)
 
 returns : tie.Need-returns
 unfolding operandIn
 returns c =
-    let byte-at = c .before .before .before .before .byte-at in
-    let byte-at2 = c .before .before .before .byte-at2 in
-    let from = c .before .before .from in
-    let four-of = c .before .four-of in
-    let match = c .match in
-    rw (← byte-at .ensures, ← byte-at2 .ensures, ← from .ensures, ← four-of .ensures, match .keys1)
+    let from = c .before .before .before .before .from in
+    let four-of = c .before .before .before .four-of in
+    let byte-at = c .before .before .byte-at in
+    rw (← from .ensures, ← four-of .ensures, ← byte-at .ensures, ← c .before .byte-at2 .ensures) (c .operand-of .ensures)
 
 returns-2 : tie.Need-returns-2
 unfolding operandIn
 returns-2 c =
-    let byte-at = c .before .before .before .before .byte-at in
-    let byte-at2 = c .before .before .before .byte-at2 in
-    let from = c .before .before .from in
-    let four-of = c .before .four-of in
-    let match = c .match in
-    rw (← byte-at .ensures, ← byte-at2 .ensures, ← from .ensures, ← four-of .ensures, match .keys2)
-
-returns-3 : tie.Need-returns-3
-unfolding operandIn
-returns-3 c =
-    let byte-at = c .before .before .before .before .byte-at in
-    let byte-at2 = c .before .before .before .byte-at2 in
-    let from = c .before .before .from in
-    let four-of = c .before .four-of in
-    let match = c .match in
-    rw (← byte-at .ensures, ← byte-at2 .ensures, ← from .ensures, ← four-of .ensures, ne-eqb _ 0 (match .rest .0 .1), ne-eqb _ 1 (match .rest .1))
+    let args = c .before .before .before .before .before .before .before .before .before .before .args in
+    let number-of-four = c .before .before .before .number-of-four in
+    rw (← after-two (args .part .now), ← number-of-four .ensures) (c .operand-of2 .ensures)
 
 pub operand-in-spec : {M : Type 1} → statement M
 operand-in-spec =
-    tie.close
-    (tie.spec
-    byte-at-requires
-    byte-at-requires-2
-    from-requires
-    four-of-requires
-    returns
-    returns-2
-    returns-3)
+    tie.close (tie.spec (λ c κs. search needs) (λ c κs. search needs) (λ c κs. search needs) (λ c κs. search needs)
+    (λ c κs. search needs) returns (λ c. search needs) (λ c. search needs) (λ c. search needs) (λ c. search needs)
+    (λ c κs. search needs) (λ c. search needs) (λ c. search needs) (λ c κs. search needs) returns-2)
