@@ -1,6 +1,6 @@
--- Laws of the code that looks for refusals 3 to 8 and 12: a match that found another cell, how many cells a file has, and what no declaration breaks.
+-- Laws of the code that looks for refusals 3 to 8 and 12: a match that found another cell and how many cells a file has.
 use mathlib.Core.Path.{_≡_, refl, sym, ap, _∙_}
-use mathlib.Core.Bool.{Bool, false}
+use mathlib.Core.Bool.{false}
 use mathlib.Core.List.{List, [], _∷_, _++_, map}
 use Prim.Native.Nat.{ℕ, suc, _+_, _*_, _≤_}
 use native.Mathlib.Omega.{arith}
@@ -8,13 +8,8 @@ use lib.ListN.{length, length-map, length-append}
 use types.Run.{OneOf, miss}
 use denote.Enum.Declared as enums
 use Rattle.tagged.specs.Bytes.{twoBytes}
-use Rattle.tagged.specs.Fields.{Placed, fieldBytes, allBytesOf}
-use Rattle.tagged.specs.Refusals.{firstBroken, firstRefusal}
-use Rattle.tagged.specs.Declarations.{Declaration, declarationBytes, declarationBreaks}
-use Rattle.tagged.specs.declared.answers.Rule.{Rule}
-use Rattle.tagged.specs.declared.answers.Rule.the-variants as Rule
-use Rattle.tagged.specs.declared.answers.Found.the-variants as Found
-use Rattle.tagged.specs.declared.answers.Answer.the-variants as Answer
+use Rattle.tagged.specs.Fields.{fieldBytes, allBytesOf}
+use Rattle.tagged.specs.Declarations.{declarationBytes}
 use Rattle.netlist.specs.declared.Cell.{Cell}
 use Rattle.netlist.specs.declared.Cell.the-variants as Cell
 use Rattle.netlist.specs.Lists.{Netlist}
@@ -70,25 +65,3 @@ few-cells n h =
     let celled = allBytesOf cellBytes (n .cells) in
     let driven = allBytesOf driveBytes (n .drives) in
     omega (arith, cells-bytes-least (n .cells), length-append (declared ++ celled) driven, length-append declared celled)
-
--- what is broken nowhere
-never : {A : Type 0} (breaks : List A → A → Bool) → ((earlier : List A) (a : A) → breaks earlier a ≡ false) → (earlier : List A) (l : List (Placed A))
-    → firstBroken breaks earlier l ≡ Found.Nowhere
-unfolding firstBroken
-never breaks off earlier [] = refl
-never breaks off earlier (x ∷ l) = rw (off earlier (x .what)) (never breaks off (earlier ++ (x .what ∷ [])) l)
-
--- the rules that are looked for after the third, the fourth and the fifth
-abbrev pub afterCount : List Rule
-afterCount = Rule.Reference ∷ Rule.Widths ∷ Rule.BitNumber ∷ Rule.Cells ∷ []
-
-abbrev pub afterName : List Rule
-afterName = Rule.Count ∷ afterCount
-
-abbrev pub afterValue : List Rule
-afterValue = Rule.Name ∷ afterName
-
--- no declaration breaks a rule after the fifth
-pub declared-later : (l : List (Placed Declaration)) → Answer.Accepted ≡ firstRefusal (λ rule. firstBroken (declarationBreaks rule) [] l) afterCount
-unfolding firstRefusal declarationBreaks
-declared-later l = rw (never (λ (earlier : List Declaration) (d : Declaration). false) (λ earlier d. refl) [] l)

@@ -1,6 +1,6 @@
 -- The parts of a file to which refusals 1 and 2 do not apply, as the code that looks for the other refusals takes them.
-use mathlib.Core.Path.{_≡_, sym, ap, ap₂, _∙_, subst}
-use mathlib.Core.List.{List, [], map}
+use mathlib.Core.Path.{_≡_, refl, sym, ap, ap₂, _∙_, subst}
+use mathlib.Core.List.{List, [], map, _∷_}
 use Prim.Native.Nat.{ℕ, _+_, _^_, _≤_}
 use native.Mathlib.Omega.{arith}
 use lib.ListN.{length, take, drop, length-take, length-drop}
@@ -10,21 +10,24 @@ use Rattle.tagged.specs.Fields.{passedBytes, unplaced, placedBy}
 use Rattle.tagged.specs.Files.{fileAnswer}
 use Rattle.tagged.specs.Refusals.{firstBroken, firstRefusal}
 use Rattle.tagged.specs.Declarations.{Declaration, widthOf, declarationsStep, declarationsAt, declarationsIn, afterDeclarations}
-use Rattle.tagged.specs.Declarations.{declarationBreaks, declarationBroken, variableTable}
+use Rattle.tagged.specs.Declarations.{declarationBreaks, declarationBroken, declarationsAnswer, variableTable}
+use Rattle.tagged.specs.Answers.{numberOf}
 use Rattle.tagged.specs.declared.declarations.VariableTable.{VariableTable}
 use Rattle.tagged.specs.declared.answers.Answer.{Answer}
 use Rattle.tagged.specs.declared.answers.Answer.the-variants as Answer
 use Rattle.tagged.specs.declared.answers.Rule.{Rule}
+use Rattle.tagged.specs.declared.answers.Rule.the-variants as Rule
 use Rattle.tagged.specs.declared.fields.Step.the-variants as Step
 use Rattle.tagged.proofs.FileLaws.{file-fits}
 use Rattle.tagged.proofs.LowerLaws.{refusal-same}
+use Rattle.tagged.proofs.DeclarationRules.{declared-only}
 use Rattle.tagged.proofs.TableLaws.{markOf, told-widths, told-marks, marks-long}
 use Rattle.netlist.specs.Lists.{Netlist}
 use Rattle.netlist.specs.Form.{cellBytes, driveBytes, cellsStep, netlistForm}
 use Rattle.netlist.specs.Reading.{cellsAt, drivesAt, listsIn, netlistIn}
 use Rattle.netlist.specs.Rules.{registersFrom, cellsBase, drivesBase}
 use Rattle.netlist.specs.Answer.{netlistRules}
-use Rattle.netlist.specs.RuleTests.{listAnswer, cellsEnd, partsAnswer, declaring, restAnswer, KnownVariables, mostListed}
+use Rattle.netlist.specs.RuleTests.{cellsEnd, partsAnswer, declaring, restAnswer, KnownVariables, mostListed}
 use Rattle.netlist.proofs.NetlistBytes.{PayloadRead, written-read}
 use Rattle.netlist.proofs.RuleLaws.{few-cells}
 use Rattle.netlist.proofs.RuleWalks.{front-known}
@@ -50,10 +53,12 @@ module _ (file : List ℕ) (bytes : AllBytes file) (accepted : fileAnswer longes
       ap (firstBroken (declarationBreaks rule) []) (read .declarations-placed) ∙ ap (λ (n : Netlist). declarationBroken rule 3 (n .declarations)) (sym netlist-lists)
 
   -- what the declarations are refused for
-  pub declared-placed : {answer : Answer} → answer ≡ listAnswer declarationBreaks [] (declarationsAt 3 payload) →
+  pub declared-placed : {answer : Answer} → answer ≡ declarationsAnswer 3 payload →
       answer ≡ firstRefusal (λ rule. declarationBroken rule 3 (netlistIn file .declarations)) netlistRules
-  unfolding listAnswer
-  declared-placed e = e ∙ refusal-same _ _ declared-place netlistRules
+  unfolding numberOf
+  declared-placed e =
+      e ∙ sym (declared-only (Rule.Reference ∷ Rule.Widths ∷ Rule.BitNumber ∷ Rule.Cells ∷ []) refl (declarationsAt 3 payload))
+      ∙ refusal-same _ _ declared-place netlistRules
 
   -- what a table of the declarations tells of the first 64
   module _ {table : VariableTable} (made : table ≡ variableTable (declarationsIn payload)) where

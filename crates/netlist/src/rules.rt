@@ -10,7 +10,7 @@ ghost use Rattle.tagged.specs.Fields.{unplaced};
 ghost use Rattle.tagged.specs.Files.{fileAnswer};
 ghost use Rattle.tagged.specs.Limits.{mostVariables, longestNetlist};
 ghost use Rattle.tagged.specs.Refusals.{lowerRefusal};
-ghost use Rattle.tagged.specs.Declarations.{Declaration, widthOf, sortOfDeclaration, registerMark, declarationsAt, declarationBreaks};
+ghost use Rattle.tagged.specs.Declarations.{Declaration, widthOf, sortOfDeclaration, registerMark};
 ghost use Rattle.tagged.specs.declared.answers.Answer.the-variants as answers;
 ghost use Rattle.tagged.specs.declared.fields.Step.the-variants as steps;
 ghost use Rattle.netlist.specs.declared.Cell as listed;
@@ -32,12 +32,11 @@ use crate::reading::drive_in;
 use crate::reading::next_cell;
 use crate::reading::next_drive;
 use tagged::answers::Answer;
-use tagged::answers::Found;
 use tagged::answers::Rule;
 use tagged::bytes::byte_at;
 use tagged::bytes::from;
 use tagged::bytes::front;
-use tagged::declarations::declaration_broken;
+use tagged::declarations::declarations_answer;
 use tagged::declarations::declared_bytes;
 use tagged::declarations::payload_at;
 use tagged::declarations::variable_table;
@@ -396,29 +395,12 @@ fn rest_answer(file: &[u8]) -> Answer
     cells_answer(cells, 3 + bytes, front(&widths, count), &numbers[..listed])
 }
 
-// What the declarations of a list, whose first byte stands at 3, are refused for.
-fn declared_answer(list: &[u8]) -> Answer
-    requires { ⌜ 3 + length (now list) ≤ 2 ^ 40 ⌝ }
-    ensures { λ r. ⌜ r ≡ listAnswer declarationBreaks [] (declarationsAt 3 (now (list .entry))) ⌝ }
-{
-    match declaration_broken(Rule::Value, list, 3) {
-        Found::At(place) => Answer::Refused(Rule::Value, place),
-        Found::Nowhere => match declaration_broken(Rule::Name, list, 3) {
-            Found::At(place) => Answer::Refused(Rule::Name, place),
-            Found::Nowhere => match declaration_broken(Rule::Count, list, 3) {
-                Found::At(place) => Answer::Refused(Rule::Count, place),
-                Found::Nowhere => Answer::Accepted,
-            },
-        },
-    }
-}
-
 // The answer of a file to which refusals 1 and 2 do not apply. Where more than 64 variables leave some unknown, refusal 5 applies, and what they
 // would change has a higher number.
 pub fn lists_answer(file: &[u8]) -> Answer
     requires { ⌜ (fileAnswer longestNetlist (now file) ≡ answers.Accepted) × (netlistForm (now file) ≡ steps.Past (length (now file))) ⌝ }
     ensures { λ r. ⌜ r ≡ listsAnswer 3 (netlistIn (now (file .entry))) ⌝ }
 {
-    let answer = declared_answer(from(file, 3));
+    let answer = declarations_answer(from(file, 3), 3);
     answer.or_lower(rest_answer(file))
 }

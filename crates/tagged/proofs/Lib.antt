@@ -26,6 +26,7 @@ pub mod DeclarationBytes
 pub mod DeclarationSizes
 pub mod DeclarationTests
 pub mod DeclarationWalks
+pub mod DeclarationRules
 pub mod FieldLists
 pub mod PartLaws
 pub mod PlacedParts

@@ -1,5 +1,5 @@
 -- What the first place that breaks a rule, and the first rule that has a place, say of the elements and of the rules. By induction on the list.
-use mathlib.Core.Path.{_≡_, refl, sym, ap, _∙_}
+use mathlib.Core.Path.{_≡_, refl, sym, ap}
 use mathlib.Core.Bool.{Bool, true, false, _&&_, and-eq-true-iff}
 use mathlib.Core.List.{List, [], _∷_, _++_, append-assoc, append-nil, List·Memᴰ, List·Memᴰ·head, List·Memᴰ·tail}
 use Prim.Native.Nat.{ℕ, suc, _≤_, _<_}
@@ -221,23 +221,6 @@ module _ (broken : Rule → Found) where
   first-broken (here same h) = h
   first-broken (later h f) = first-broken f
 
--- the refusal by the first rule, or the answer of the later ones
-module _ (broken : Rule → Found) (rule : Rule) (l : List Rule) {found : Found} (same : found ≡ broken rule) where
-  pub refused-here : {place : ℕ} → found ≡ Found.At place → Answer.Refused rule place ≡ firstRefusal broken (rule ∷ l)
-  unfolding firstRefusal
-  refused-here e = rw (sym same ∙ e)
-
-  pub refused-later : found ≡ Found.Nowhere → {answer : Answer} → answer ≡ firstRefusal broken l → answer ≡ firstRefusal broken (rule ∷ l)
-  unfolding firstRefusal
-  refused-later nowhere rest = rw (sym same ∙ nowhere) rest
-
--- the first place of two
-pub found-first : {r a : Found} (b : Found) {place : ℕ} → r ≡ a → r ≡ Found.At place → Found.At place ≡ orElse a b
-found-first b same found = ap (λ (f : Found). orElse f b) (sym found ∙ same)
-
-pub found-second : {r a b s : Found} → r ≡ a → r ≡ Found.Nowhere → s ≡ b → s ≡ orElse a b
-found-second {b = b} same nowhere second = second ∙ ap (λ (f : Found). orElse f b) (sym nowhere ∙ same)
-
 -- two ways to look for the place of a rule that agree, one rule after the other, as long as nothing was found
 pub data Agrees (a b : Rule → Found) : List Rule → Type 0 where
   agree-none : Agrees a b []
@@ -263,11 +246,3 @@ refusal-append broken (rule ∷ a) b = go (broken rule) (refusal-append broken a
         refusedAt rule found (firstRefusal broken (a ++ b)) ≡ afterAnswer (refusedAt rule found (firstRefusal broken a)) (firstRefusal broken b)
     go (Found.At place) rest = refl
     go Found.Nowhere rest = rest
-
--- the answer of the first list, if it is a refusal, or else that of the second
-module _ (broken : Rule → Found) (a b : List Rule) {first : Answer} (answered : first ≡ firstRefusal broken a) where
-  pub joined-refused : {rule : Rule} {place : ℕ} → first ≡ Answer.Refused rule place → Answer.Refused rule place ≡ firstRefusal broken (a ++ b)
-  joined-refused e = sym (refusal-append broken a b ∙ ap (λ (x : Answer). afterAnswer x (firstRefusal broken b)) (sym answered ∙ e))
-
-  pub joined-accepted : first ≡ Answer.Accepted → {second : Answer} → second ≡ firstRefusal broken b → second ≡ firstRefusal broken (a ++ b)
-  joined-accepted e rest = rest ∙ sym (refusal-append broken a b ∙ ap (λ (x : Answer). afterAnswer x (firstRefusal broken b)) (sym answered ∙ e))

@@ -96,9 +96,6 @@ with-count t w m r e = ap (λ (t : VariableTable). t .count) e
 -- the front of a table that has room for all
 module _ {A : Type 0} (f : A → ℕ) (room : ℕ) (items : List A) (few : length items ≤ room) (table : List ℕ) (held : table ≡ tableOf room (map f items)) (count : ℕ)
     (all : count ≡ length items) where
-  pub front-room : count ≤ length table
-  front-room = omega (arith, ap length held, table-length room (map f items), all)
-
   pub front-all : take count table ≡ map f items
   front-all =
       let long = length-map items f in

@@ -10,7 +10,7 @@ use Rattle.tagged.specs.Bytes.{fourBytes, fourOf}
 use Rattle.tagged.specs.Sorts.{onDeclaration, isDeclaration, tagOf}
 use Rattle.tagged.specs.Fields.{Stepper, Body, fieldBy, fixedThen, anyBytes, many, fieldBytes, openOf, onField, passedBytes, Placed, readPlaced, unplaced, placedBy}
 use Rattle.tagged.specs.Names.{isName, sameName}
-use Rattle.tagged.specs.Refusals.{firstBroken}
+use Rattle.tagged.specs.Refusals.{firstBroken, firstRefusal}
 use Rattle.tagged.specs.declared.sorts.DeclarationSort.{DeclarationSort}
 use Rattle.tagged.specs.declared.sorts.DeclarationSort.the-variants as DeclarationSort
 use Rattle.tagged.specs.declared.sorts.Sort.{Sort}
@@ -23,6 +23,7 @@ use Rattle.tagged.specs.declared.fields.Judged.the-variants as Judged
 use Rattle.tagged.specs.declared.answers.Rule.{Rule}
 use Rattle.tagged.specs.declared.answers.Rule.the-variants as Rule
 use Rattle.tagged.specs.declared.answers.Found.{Found}
+use Rattle.tagged.specs.declared.answers.Answer.{Answer}
 
 -- 02 input: width byte, name. 03 register: width byte, four-byte initial value, name
 pub data Declaration : Type 0 where
@@ -140,6 +141,14 @@ declarationBreaks Rule.Row earlier d = false
 -- the place of the first declaration that breaks a rule: of a list whose bytes start at `base`
 abbrev pub declarationBroken : Rule → ℕ → List Declaration → Found
 declarationBroken rule base ds = firstBroken (declarationBreaks rule) [] (placedBy declarationBytes base ds)
+
+-- the rules that a declaration can break, in their order
+abbrev pub declarationRules : List Rule
+declarationRules = Rule.Value ∷ Rule.Name ∷ Rule.Count ∷ []
+
+-- what the declarations of a list of bytes, the first at `base`, are refused for
+abbrev pub declarationsAnswer : ℕ → List ℕ → Answer
+declarationsAnswer base l = firstRefusal (λ rule. firstBroken (declarationBreaks rule) [] (declarationsAt base l)) declarationRules
 
 -- what they declare
 

@@ -5,10 +5,11 @@ ghost use Prim.Native.Nat.{_+_, _^_, _≤_};
 ghost use lib.ListN.{length, take, drop};
 ghost use Rattle.tagged.specs.Sorts.{sortOf, isDeclaration};
 ghost use Rattle.tagged.specs.Fields.{fieldBy, passedBytes};
-ghost use Rattle.tagged.specs.Declarations.{fixedBytes, declarationBody, declarationsStep, declarationIn, declarationsIn, declarationsAt, nextIn, valueBroken, nameTaken, nameBroken, declarationBreaks, registerMark, variableTable, withVariable};
+ghost use Rattle.tagged.specs.Declarations.{fixedBytes, declarationBody, declarationsStep, declarationIn, declarationsIn, declarationsAt, nextIn, valueBroken, nameTaken, nameBroken, declarationBreaks, declarationsAnswer, registerMark, variableTable, withVariable};
 ghost use Rattle.tagged.specs.Limits.{mostVariables};
 ghost use Rattle.tagged.specs.Refusals.{firstBroken};
 ghost use lib.Dec.{leb};
+use crate::answers::Answer;
 use crate::answers::Found;
 use crate::answers::Rule;
 use crate::bytes::byte_at;
@@ -227,7 +228,7 @@ fn declaration_breaks(
 }
 
 // The place of the first declaration that breaks this rule, in a list whose first byte stands at `base`.
-pub fn declaration_broken(rule: Rule, list: &[u8], base: usize) -> Found
+fn declaration_broken(rule: Rule, list: &[u8], base: usize) -> Found
     requires { ⌜ base + length (now list) ≤ 2 ^ 40 ⌝ }
     ensures { λ r. ⌜ r ≡ firstBroken (declarationBreaks rule) [] (declarationsAt base (now (list .entry))) ⌝ }
 {
@@ -246,6 +247,23 @@ pub fn declaration_broken(rule: Rule, list: &[u8], base: usize) -> Found
                 count = count + 1;
             }
         }
+    }
+}
+
+// What the declarations of a list, whose first byte stands at `base`, are refused for: rules 3 to 5.
+pub fn declarations_answer(list: &[u8], base: usize) -> Answer
+    requires { ⌜ base + length (now list) ≤ 2 ^ 40 ⌝ }
+    ensures { λ r. ⌜ r ≡ declarationsAnswer base (now (list .entry)) ⌝ }
+{
+    match declaration_broken(Rule::Value, list, base) {
+        Found::At(place) => Answer::Refused(Rule::Value, place),
+        Found::Nowhere => match declaration_broken(Rule::Name, list, base) {
+            Found::At(place) => Answer::Refused(Rule::Name, place),
+            Found::Nowhere => match declaration_broken(Rule::Count, list, base) {
+                Found::At(place) => Answer::Refused(Rule::Count, place),
+                Found::Nowhere => Answer::Accepted,
+            },
+        },
     }
 }
 

@@ -10,7 +10,6 @@ use Rattle.tagged.specs.Declarations.{Declaration, widthOf, registerMark, sortO
 use Rattle.tagged.specs.declared.answers.Rule.{Rule}
 use Rattle.tagged.specs.declared.answers.Rule.the-variants as Rule
 use Rattle.tagged.specs.declared.answers.Found.{Found}
-use Rattle.tagged.specs.declared.answers.Found.the-variants as Found
 use Rattle.tagged.proofs.RefusalLaws.{passes-nowhere}
 use Rattle.tagged.proofs.FoundLaws.{or-nowhere, found-same}
 use Rattle.verilog.specs.Tree.{Module}

@@ -1,13 +1,9 @@
 -- The widths of variables as the table has them, in the form in which code asks it. By induction on the table.
 use mathlib.Core.Path.{_≡_, refl, ap}
 use mathlib.Core.List.{List, [], _∷_, map}
-use Prim.Native.Nat.{ℕ, _-_}
+use Prim.Native.Nat.{ℕ}
 use lib.ListN.{getD}
 use Rattle.tagged.specs.Declarations.{widthOf, variableWidth}
-use Rattle.tagged.specs.declared.sorts.Sort.{Sort}
-use Rattle.tagged.specs.declared.sorts.Sort.the-variants as Sort
-use Rattle.tagged.specs.declared.fields.Opened.{Opened}
-use Rattle.tagged.specs.declared.fields.Opened.the-variants as Opened
 use Rattle.verilog_check.specs.Tables.{variablesOf}
 
 -- the width of the variable that a payload's first byte names, from a table of widths

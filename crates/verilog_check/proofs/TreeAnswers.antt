@@ -9,11 +9,11 @@ use lib.ListN.{length, getD, take, drop, length-append, length-drop}
 use lib.Seq.{take-append-seam}
 use Rattle.tagged.specs.Limits.{longestModule, mostVariables}
 use Rattle.tagged.specs.Bytes.{AllBytes}
-use Rattle.tagged.specs.Fields.{allBytesOf, fieldsAt, passedBytes, unplaced, placedBy}
+use Rattle.tagged.specs.Fields.{Placed, allBytesOf, fieldsAt, passedBytes, unplaced, placedBy}
 use Rattle.tagged.specs.Files.{fileAnswer}
-use Rattle.tagged.specs.Refusals.{firstBroken, orElse, foundIf, firstRefusal, lowerRefusal, afterAnswer}
+use Rattle.tagged.specs.Refusals.{firstBroken, orElse, foundIf, firstRefusal, lowerRefusal}
 use Rattle.tagged.specs.Answers.{numberOf}
-use Rattle.tagged.specs.Declarations.{Declaration, widthOf, declarationBytes, declarationBreaks, declarationBroken, declarationsStep, declarationsAt, declarationsIn, variableTable}
+use Rattle.tagged.specs.Declarations.{Declaration, widthOf, declarationBytes, declarationBreaks, declarationBroken, declarationRules, declarationsAnswer, declarationsStep, declarationsAt, declarationsIn, variableTable}
 use Rattle.tagged.specs.declared.declarations.VariableTable.{VariableTable}
 use Rattle.tagged.specs.declared.answers.Rule.{Rule}
 use Rattle.tagged.specs.declared.answers.Rule.the-variants as Rule
@@ -23,10 +23,11 @@ use Rattle.tagged.specs.declared.answers.Answer.{Answer}
 use Rattle.tagged.specs.declared.answers.Answer.the-variants as Answer
 use Rattle.tagged.specs.declared.fields.Step.the-variants as Step
 use Rattle.tagged.proofs.FileLaws.{file-fits}
-use Rattle.tagged.proofs.RefusalLaws.{Agrees, agree-none, agree-more, same-refusal, passes-nowhere, Rising, order-rising, NoneBroken, none, more, none-accepted, refusal-append}
+use Rattle.tagged.proofs.RefusalLaws.{Agrees, agree-none, agree-more, same-refusal, passes-nowhere, Rising, order-rising, none}
 use Rattle.tagged.proofs.LowerLaws.{refusal-both, refusal-same}
 use Rattle.tagged.proofs.FoundLaws.{or-nowhere}
 use Rattle.tagged.proofs.DeclarationSizes.{variables-few}
+use Rattle.tagged.proofs.DeclarationRules.{declared-only}
 use Rattle.tagged.proofs.TableLaws.{widths-known, marks-known, markOf}
 use Rattle.verilog.specs.Tree.{Expression, constant, Module}
 use Rattle.verilog.specs.Form.{processBytes, modulePayload, moduleForm}
@@ -81,35 +82,6 @@ in-order : Rising 0 moduleRules
 unfolding numberOf
 in-order = order-rising 0 moduleRules refl
 
--- those that a declaration can break
-abbrev declarationRules : List Rule
-declarationRules = Rule.Value ∷ Rule.Name ∷ Rule.Count ∷ []
-
--- no declaration breaks a later one
-declared-first : (base : ℕ) (ds : List Declaration) →
-    firstRefusal (λ rule. declarationBroken rule base ds) declarationRules ≡ firstRefusal (λ rule. declarationBroken rule base ds) moduleRules
-unfolding declarationBreaks
-declared-first base ds =
-    sym (refusal-append broken declarationRules later ∙ ap (afterAnswer (firstRefusal broken declarationRules)) (none-accepted broken none-later) ∙ after-accepted _)
-  where
-    broken : Rule → Found
-    broken rule = declarationBroken rule base ds
-
-    later : List Rule
-    later = Rule.Reference ∷ Rule.Widths ∷ Rule.BitNumber ∷ Rule.BothKinds ∷ Rule.TwoProcesses ∷ Rule.ReadElsewhere ∷ []
-
-    never : (rule : Rule) → ((earlier : List Declaration) (d : Declaration) → declarationBreaks rule earlier d ≡ false) → broken rule ≡ Found.Nowhere
-    never rule fails = passes-nowhere (declarationBreaks rule) [] (placedBy declarationBytes base ds) (λ before p d s. fails before d)
-
-    none-later : NoneBroken broken later
-    none-later =
-        more (never Rule.Reference (λ earlier d. refl)) (more (never Rule.Widths (λ earlier d. refl)) (more (never Rule.BitNumber (λ earlier d. refl))
-        (more (never Rule.BothKinds (λ earlier d. refl)) (more (never Rule.TwoProcesses (λ earlier d. refl)) (more (never Rule.ReadElsewhere (λ earlier d. refl)) none)))))
-
-    after-accepted : (a : Answer) → afterAnswer a Answer.Accepted ≡ a
-    after-accepted Answer.Accepted = refl
-    after-accepted (Answer.Refused rule place) = refl
-
 -- the parts of a file
 module _ (file : List ℕ) (bytes : AllBytes file) (accepted : fileAnswer longestModule file ≡ Answer.Accepted) (formed : moduleForm file ≡ Step.Past (length file))
     (payload : List ℕ) (part : payload ≡ drop 3 file) where
@@ -159,10 +131,12 @@ module _ (file : List ℕ) (bytes : AllBytes file) (accepted : fileAnswer longes
       abbrev looked : Rule → Found
       looked rule = orElse (declarationBroken rule 3 (m .declarations)) (foundBy widths marks firsts 3 m rule)
 
-      declared-answer : firstRefusal (λ rule. firstBroken (declarationBreaks rule) [] (declarationsAt 3 payload)) declarationRules
-          ≡ firstRefusal (λ rule. declarationBroken rule 3 (m .declarations)) moduleRules
+      declared-answer : declarationsAnswer 3 payload ≡ firstRefusal (λ rule. declarationBroken rule 3 (m .declarations)) moduleRules
+      unfolding numberOf
       declared-answer =
-          refusal-same _ _ (λ rule. ap (firstBroken (declarationBreaks rule) []) (ap (declarationsAt 3) part ∙ read .places)) declarationRules ∙ declared-first 3 (m .declarations)
+          ap (λ (l : List (Placed Declaration)). firstRefusal (λ rule. firstBroken (declarationBreaks rule) [] l) declarationRules) (ap (declarationsAt 3) part ∙ read .places)
+          ∙ sym (declared-only (Rule.Reference ∷ Rule.Widths ∷ Rule.BitNumber ∷ Rule.BothKinds ∷ Rule.TwoProcesses ∷ Rule.ReadElsewhere ∷ []) refl
+          (placedBy declarationBytes 3 (m .declarations)))
 
       walked : walkProcesses (fieldAnswer widths marks firsts) (expressionWidth (variablesOf widths)) 0 (fieldsAt (3 + taken) list) ≡ firstRefusal (foundBy widths marks firsts 3 m) moduleRules
       walked =
@@ -172,7 +146,7 @@ module _ (file : List ℕ) (bytes : AllBytes file) (accepted : fileAnswer longes
           (tree-fits .processes) processes-deep (omega (arith, list-long, ap length list-is))
           ∙ lowest-first (judged widths marks firsts) in-order (processFields 3 m)
 
-      found : lowerRefusal (firstRefusal (λ rule. firstBroken (declarationBreaks rule) [] (declarationsAt 3 payload)) declarationRules)
+      found : lowerRefusal (declarationsAnswer 3 payload)
           (walkProcesses (fieldAnswer widths marks firsts) (expressionWidth (variablesOf widths)) 0 (fieldsAt (3 + taken) list)) ≡ firstRefusal looked moduleRules
       found = ap₂ lowerRefusal declared-answer walked ∙ sym (refusal-both (λ rule. declarationBroken rule 3 (m .declarations)) (foundBy widths marks firsts 3 m) in-order)
 
@@ -248,7 +222,7 @@ module _ (file : List ℕ) (bytes : AllBytes file) (accepted : fileAnswer longes
           (λ counts. middle (variables-few 3 (m .declarations) (declarations-kept m 3 Rule.Count counts)))))
 
       pub answered : (declared walked answer : Answer) →
-          declared ≡ firstRefusal (λ rule. firstBroken (declarationBreaks rule) [] (declarationsAt 3 payload)) declarationRules →
+          declared ≡ declarationsAnswer 3 payload →
           walked ≡ walkProcesses (fieldAnswer widths marks firsts) (expressionWidth (variablesOf widths)) 0 (fieldsAt (3 + taken) list) →
           answer ≡ lowerRefusal declared walked → answer ≡ treeAnswer 3 (moduleIn file)
       unfolding treeAnswer

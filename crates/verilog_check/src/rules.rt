@@ -1,14 +1,10 @@
 // Refusals 3 to 11 of a file to which 1 and 2 do not apply: of the declarations and of the processes, the lower number stands.
 ghost use mathlib.Core.Path.{_≡_};
-ghost use mathlib.Core.List.{[], _∷_};
-ghost use Prim.Native.Nat.{_+_, _^_, _≤_};
+ghost use Prim.Native.Nat.{_+_};
 ghost use lib.ListN.{length};
 ghost use Rattle.tagged.specs.Files.{fileAnswer};
 ghost use Rattle.tagged.specs.Limits.{longestModule};
-ghost use Rattle.tagged.specs.Refusals.{firstBroken, firstRefusal};
-ghost use Rattle.tagged.specs.Declarations.{declarationBreaks, declarationsAt};
 ghost use Rattle.tagged.specs.declared.answers.Answer.the-variants as answers;
-ghost use Rattle.tagged.specs.declared.answers.Rule.the-variants as ruled;
 ghost use Rattle.tagged.specs.declared.fields.Step.the-variants as steps;
 ghost use Rattle.verilog.specs.Answer.{treeAnswer};
 ghost use Rattle.verilog.specs.Form.{moduleForm};
@@ -16,31 +12,12 @@ ghost use Rattle.verilog.specs.Reading.{moduleIn};
 use crate::survey::survey;
 use crate::walk::processes_answer;
 use tagged::answers::Answer;
-use tagged::answers::Found;
-use tagged::answers::Rule;
 use tagged::bytes::from;
-use tagged::declarations::declaration_broken;
+use tagged::declarations::declarations_answer;
 use tagged::declarations::declared_bytes;
 use tagged::declarations::told;
 use tagged::declarations::variable_table;
 use tagged::limits::Variables;
-
-// What the declarations of a payload are refused for: rules 3 to 5.
-fn declarations_answer(payload: &[u8]) -> Answer
-    requires { ⌜ 3 + length (now payload) ≤ 2 ^ 40 ⌝ }
-    ensures { λ r. ⌜ r ≡ firstRefusal (λ rule. firstBroken (declarationBreaks rule) [] (declarationsAt 3 (now (payload .entry)))) (ruled.Value ∷ ruled.Name ∷ ruled.Count ∷ []) ⌝ }
-{
-    match declaration_broken(Rule::Value, payload, 3) {
-        Found::At(place) => Answer::Refused(Rule::Value, place),
-        Found::Nowhere => match declaration_broken(Rule::Name, payload, 3) {
-            Found::At(place) => Answer::Refused(Rule::Name, place),
-            Found::Nowhere => match declaration_broken(Rule::Count, payload, 3) {
-                Found::At(place) => Answer::Refused(Rule::Count, place),
-                Found::Nowhere => Answer::Accepted,
-            },
-        },
-    }
-}
 
 // The answer of a file to which refusals 1 and 2 do not apply.
 pub fn tree_answer(file: &[u8]) -> Answer
@@ -56,7 +33,7 @@ pub fn tree_answer(file: &[u8]) -> Answer
     let marks = table.registers;
     let mut firsts = [0usize; Variables::MAX];
     survey(list, &mut firsts);
-    let declared = declarations_answer(payload);
+    let declared = declarations_answer(payload, 3);
     let processes = processes_answer(&widths[..count], &marks[..count], &firsts, list, 3 + bytes);
     declared.or_lower(processes)
 }

@@ -8,8 +8,8 @@ use borrow.Author.Needs.{needs}
 use Rattle.netlist.proofs.rules.lists_answer.Statement.{statement}
 use Rattle.netlist.proofs.rules.lists_answer.Tie as tie
 
-declared-answer-requires : tie.Need-declared-answer-requires
-declared-answer-requires c κs =
+declarations-answer-requires : tie.Need-declarations-answer-requires
+declarations-answer-requires c κs =
     let args = c .before .before .args in
     let pre = c .before .before .pre in
     omega (
@@ -24,12 +24,12 @@ returns c =
     let shared-slice-known = c .before .before .before .before .shared-slice-known in
     let pre = c .before .before .before .before .before .pre in
     let from = c .before .before .before .from in
-    let declared-answer = c .before .before .declared-answer in
+    let declarations-answer = c .before .before .declarations-answer in
     lists-joined 3 (netlistIn (args .file .now))
     (declared-placed (args .file .now) (read-bytes (args .file .now) (shared-slice-known .given)) (pre .0) (pre .1) (from .result .now) (from .ensures)
-    (declared-answer .ensures)) (c .before .rest-answer .ensures) (c .or-lower .ensures)
+    (declarations-answer .ensures)) (c .before .rest-answer .ensures) (c .or-lower .ensures)
 
 pub lists-answer-spec : {M : Type 1} → statement M
 lists-answer-spec =
-    tie.close (tie.spec (λ c κs. search needs) declared-answer-requires (λ c κs. search needs) (λ c κs. search needs)
+    tie.close (tie.spec (λ c κs. search needs) declarations-answer-requires (λ c κs. search needs) (λ c κs. search needs)
     returns)

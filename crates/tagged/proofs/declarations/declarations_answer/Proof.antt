@@ -1,9 +1,9 @@
--- `verilog_check::rules::declarations_answer` meets its contract: the first of the three rules that has a place is refused. Assumes nothing.
+-- `tagged::declarations::declarations_answer` meets its contract: the first of the three rules that has a place is refused. Assumes nothing.
 use mathlib.Core.Path.{sym, _∙_}
 use Rattle.tagged.specs.Refusals.{firstRefusal}
 use borrow.Author.Needs.{needs}
-use Rattle.verilog_check.proofs.rules.declarations_answer.Statement.{statement}
-use Rattle.verilog_check.proofs.rules.declarations_answer.Tie as tie
+use Rattle.tagged.proofs.declarations.declarations_answer.Statement.{statement}
+use Rattle.tagged.proofs.declarations.declarations_answer.Tie as tie
 
 enum-told : tie.Need-enum-told
 enum-told c = search needs
