@@ -29,7 +29,7 @@ use Rattle.netlist.specs.Lists.{Netlist, operandWidth, cellWidth, cellSl
 use Rattle.netlist.specs.Form.{cellBytes, driveBytes}
 use Rattle.netlist.specs.Rules.{someOperand, operandValueBroken, operandMissing, operandUnlike, cellUnlike, cellOutside, cellBreaks}
 use Rattle.netlist.specs.Rules.{notNext, driveBreaks, wholeBroken, cellsBase, drivesBase, netlistBroken}
-use Rattle.netlist.specs.RuleTests.{answerOf, operandsAnswer, oneAnswer, listAnswer, wholeAnswer, declaring, restAnswer, KnownVariables}
+use Rattle.netlist.specs.WalkAnswers.{answerOf, operandsAnswer, oneAnswer, listAnswer, wholeAnswer, declaring, restAnswer, KnownVariables}
 use Rattle.netlist.specs.Answer.{netlistRules, listsAnswer}
 
 -- the rules stand in the order of their numbers

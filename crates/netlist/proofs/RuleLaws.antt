@@ -15,7 +15,7 @@ use Rattle.netlist.specs.declared.Cell.the-variants as Cell
 use Rattle.netlist.specs.Lists.{Netlist}
 use Rattle.netlist.specs.Form.{operandBytes, cellBytes, driveBytes, netlistPayload}
 use Rattle.netlist.specs.Rules.{cellOutside}
-use Rattle.netlist.specs.RuleTests.{mostListed}
+use Rattle.netlist.specs.WalkAnswers.{mostListed}
 use Rattle.netlist.proofs.CellBytes.{operand-length}
 use Rattle.netlist.proofs.Cell as cells
 

@@ -27,7 +27,7 @@ use Rattle.netlist.specs.Form.{cellBytes, driveBytes, cellsStep, netlist
 use Rattle.netlist.specs.Reading.{cellsAt, drivesAt, listsIn, netlistIn}
 use Rattle.netlist.specs.Rules.{registersFrom, cellsBase, drivesBase}
 use Rattle.netlist.specs.Answer.{netlistRules}
-use Rattle.netlist.specs.RuleTests.{cellsEnd, partsAnswer, declaring, restAnswer, KnownVariables, mostListed}
+use Rattle.netlist.specs.WalkAnswers.{cellsEnd, partsAnswer, declaring, restAnswer, KnownVariables, mostListed}
 use Rattle.netlist.proofs.NetlistBytes.{PayloadRead, written-read}
 use Rattle.netlist.proofs.RuleLaws.{few-cells}
 use Rattle.netlist.proofs.RuleWalks.{front-known}

@@ -4,7 +4,7 @@ pub mod Form
 pub mod Reading
 pub mod Rules
 pub mod Answer
-pub mod RuleTests
+pub mod WalkAnswers
 pub mod Cycle
 pub mod Fits
 pub mod Breaks

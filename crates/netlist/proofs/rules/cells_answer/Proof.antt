@@ -13,7 +13,7 @@ use Rattle.tagged.specs.Declarations.{Declaration, widthOf}
 use Rattle.netlist.specs.Lists.{cellWidth}
 use Rattle.netlist.specs.Reading.{cellIn, cellsAt, drivesAt}
 use Rattle.netlist.specs.Rules.{cellBreaks, driveBreaks}
-use Rattle.netlist.specs.RuleTests.{oneAnswer, listAnswer, wholeAnswer, cellsEnd, partsAnswer, mostListed}
+use Rattle.netlist.specs.WalkAnswers.{oneAnswer, listAnswer, wholeAnswer, cellsEnd, partsAnswer, mostListed}
 use Rattle.netlist.proofs.RuleAnswers.{Walking, walking-start, walking-more, walking-done}
 use Rattle.netlist.proofs.RuleWalks.{cellsOf, cell-within, cell-placed, cell-more, cell-ended, cell-none, CellsLeft, left-start, left-more, left-none}
 use Rattle.netlist.proofs.RuleWalks.{Walked, walked-start, walked-more, walked-all, walked-before, Tabled, tabled-start, tabled-within, tabled-room, tabled-more}

@@ -11,7 +11,7 @@ use Rattle.netlist.specs.declared.Cell.{Cell}
 use Rattle.netlist.specs.Lists.{cellWidth}
 use Rattle.netlist.specs.Reading.{driveIn, drivesAt}
 use Rattle.netlist.specs.Rules.{driveBreaks}
-use Rattle.netlist.specs.RuleTests.{oneAnswer, listAnswer, KnownVariables}
+use Rattle.netlist.specs.WalkAnswers.{oneAnswer, listAnswer, KnownVariables}
 use Rattle.netlist.proofs.RuleLaws.{counted}
 use Rattle.netlist.proofs.RuleAnswers.{Walking, walking-start, walking-more, walking-done}
 use Rattle.netlist.proofs.RuleWalks.{drivesOf, drive-within, drive-placed, drive-more, drive-ended, drive-none}

@@ -2,7 +2,7 @@
 use lib.ListN.{length, getD}
 use borrow.Author.Tests.{le-leb, lt-leb, eq-eqb, ne-eqb}
 use native.Mathlib.Omega.{arith}
-use Rattle.netlist.specs.RuleTests.{answerOf}
+use Rattle.netlist.specs.WalkAnswers.{answerOf}
 use borrow.Author.Needs.{needs}
 use Rattle.netlist.proofs.rules.named_answer.Statement.{statement}
 use Rattle.netlist.proofs.rules.named_answer.Tie as tie

@@ -1,5 +1,5 @@
 -- `netlist::rules::operand_answer` meets its contract: each arm is the operand that the match found. Assumes nothing.
-use Rattle.netlist.specs.RuleTests.{answerOf, operandsAnswer}
+use Rattle.netlist.specs.WalkAnswers.{answerOf, operandsAnswer}
 use Rattle.netlist.specs.Rules.{operandValueBroken, operandMissing, operandUnlike}
 use Rattle.netlist.proofs.RuleLaws.{counted}
 use Rattle.netlist.proofs.RuleAnswers.{one-operand}

@@ -1,5 +1,5 @@
 -- `netlist::rules::own_answer` meets its contract: the first test that holds, where those before it do not. Assumes nothing.
-use Rattle.netlist.specs.RuleTests.{answerOf}
+use Rattle.netlist.specs.WalkAnswers.{answerOf}
 use borrow.Author.Needs.{needs}
 use Rattle.netlist.proofs.rules.own_answer.Statement.{statement}
 use Rattle.netlist.proofs.rules.own_answer.Tie as tie

@@ -1,6 +1,6 @@
 -- `netlist::rules::register_answer` meets its contract: the first test that holds, where those before it do not. Assumes nothing.
 use borrow.Author.Tests.{eq-eqb, ne-eqb}
-use Rattle.netlist.specs.RuleTests.{answerOf}
+use Rattle.netlist.specs.WalkAnswers.{answerOf}
 use borrow.Author.Needs.{needs}
 use Rattle.netlist.proofs.rules.register_answer.Statement.{statement}
 use Rattle.netlist.proofs.rules.register_answer.Tie as tie

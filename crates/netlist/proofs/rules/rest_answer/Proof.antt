@@ -6,7 +6,7 @@ use lib.Seq.{length-take-le}
 use Rattle.tagged.specs.Limits.{mostVariables}
 use Rattle.tagged.proofs.AllBytesLaws.{read-bytes}
 use Rattle.netlist.specs.Reading.{netlistIn}
-use Rattle.netlist.specs.RuleTests.{declaring}
+use Rattle.netlist.specs.WalkAnswers.{declaring}
 use Rattle.netlist.proofs.RuleParts.{payload-long, first-known, first-few, taken-few, after-asked, netlist-cells, netlist-drives, rest-placed}
 use borrow.Author.Needs.{needs}
 use Rattle.netlist.proofs.rules.rest_answer.Statement.{statement}

@@ -9,7 +9,7 @@ use Rattle.tagged.specs.Limits.{mostCells}
 use Rattle.tagged.specs.Refusals.{firstRefusal}
 use Rattle.tagged.proofs.ChoiceLaws.{first-taken, second-taken}
 use Rattle.netlist.specs.Rules.{registersFrom, wholeBroken}
-use Rattle.netlist.specs.RuleTests.{wholeAnswer}
+use Rattle.netlist.specs.WalkAnswers.{wholeAnswer}
 use borrow.Author.Needs.{needs}
 use Rattle.netlist.proofs.rules.whole_answer.Statement.{statement}
 use Rattle.netlist.proofs.rules.whole_answer.Tie as tie
