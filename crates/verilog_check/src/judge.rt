@@ -167,7 +167,6 @@ fn reads_elsewhere(
 pub fn judge_expression(
     process: usize,
     widths: &[u8],
-    marks: &[u8],
     firsts: &[usize],
     sort: ExpressionSort,
     payload: &[u8],
@@ -175,8 +174,8 @@ pub fn judge_expression(
     depth: usize,
 ) -> Answer
     requires { ⌜ process ≤ 2 ^ 40 ⌝ }
-    ensures { λ r. ⌜ r ≡ fieldAnswer (now (widths .entry)) (now (marks .entry)) (now (firsts .entry)) process
-        (expression (expressionWith (expressionIn depth) sort (now (payload .entry)))) at ⌝ }
+    ensures { λ r. ⌜ ((marks : List ℕ) → r ≡ fieldAnswer (now (widths .entry)) marks (now (firsts .entry)) process
+        (expression (expressionWith (expressionIn depth) sort (now (payload .entry)))) at) ⌝ }
 {
     if constant_broken(sort, payload, depth) {
         return Answer::Refused(Rule::Value, at);

@@ -1,7 +1,8 @@
 // What the fields of a list of processes are refused for, by one walk for all rules: each field by itself first, then those that it holds, in order.
 // `base` is the place of a list's first byte, `at` that of a field, `depth` how many levels of fields may still be opened.
 ghost use mathlib.Core.Path.{_≡_};
-ghost use Prim.Native.Nat.{_+_, _^_, _≤_};
+ghost use mathlib.Core.List.{List};
+ghost use Prim.Native.Nat.{ℕ, _+_, _^_, _≤_};
 ghost use lib.ListN.{length};
 ghost use Rattle.tagged.specs.Fields.{fieldsAt};
 ghost use Rattle.verilog.specs.Rules.{expressionWidth};
@@ -52,7 +53,6 @@ fn before_parts(sort: StatementSort) -> usize
 fn expression(
     process: usize,
     widths: &[u8],
-    marks: &[u8],
     firsts: &[usize],
     sort: Sort,
     payload: &[u8],
@@ -60,23 +60,14 @@ fn expression(
     depth: usize,
 ) -> Answer
     requires { ⌜ (process ≤ 2 ^ 40) × (at + 3 + length (now payload) ≤ 2 ^ 40) ⌝ }
-    ensures { λ r. ⌜ r ≡ walkExpression (fieldAnswer (now (widths .entry)) (now (marks .entry)) (now (firsts .entry)) process) depth at sort (now (payload .entry)) ⌝ }
+    ensures { λ r. ⌜ ((marks : List ℕ) → r ≡ walkExpression (fieldAnswer (now (widths .entry)) marks (now (firsts .entry)) process) depth at sort (now (payload .entry))) ⌝ }
 {
     if depth == 0 {
         return Answer::Accepted;
     }
     match sort {
         Sort::Expression(inner) => {
-            let own = judge_expression(
-                process,
-                widths,
-                marks,
-                firsts,
-                inner,
-                payload,
-                at,
-                depth - 1,
-            );
+            let own = judge_expression(process, widths, firsts, inner, payload, at, depth - 1);
             let fixed = before_operands(inner);
             if payload.len() < fixed {
                 return own;
@@ -84,7 +75,6 @@ fn expression(
             let inside = operands(
                 process,
                 widths,
-                marks,
                 firsts,
                 &payload[fixed..],
                 at + 3 + fixed,
@@ -100,14 +90,13 @@ fn expression(
 fn operands(
     process: usize,
     widths: &[u8],
-    marks: &[u8],
     firsts: &[usize],
     list: &[u8],
     base: usize,
     depth: usize,
 ) -> Answer
     requires { ⌜ (process ≤ 2 ^ 40) × (base + length (now list) ≤ 2 ^ 40) ⌝ }
-    ensures { λ r. ⌜ r ≡ walkAll (walkExpression (fieldAnswer (now (widths .entry)) (now (marks .entry)) (now (firsts .entry)) process) depth) (fieldsAt base (now (list .entry))) ⌝ }
+    ensures { λ r. ⌜ ((marks : List ℕ) → r ≡ walkAll (walkExpression (fieldAnswer (now (widths .entry)) marks (now (firsts .entry)) process) depth) (fieldsAt base (now (list .entry)))) ⌝ }
 {
     let mut best = Answer::Accepted;
     let mut at: usize = 0;
@@ -115,16 +104,7 @@ fn operands(
         match open_field(&list[at..], 0, 0) {
             Opened::Field(sort, size) => {
                 let payload = payload_at(list, at, size);
-                let field = expression(
-                    process,
-                    widths,
-                    marks,
-                    firsts,
-                    sort,
-                    payload,
-                    base + at,
-                    depth,
-                );
+                let field = expression(process, widths, firsts, sort, payload, base + at, depth);
                 best = best.or_lower(field);
                 at = at + 3 + size;
             }
@@ -248,7 +228,7 @@ fn part(
         return Answer::Accepted;
     }
     match sort {
-        Sort::Expression(_) => expression(process, widths, marks, firsts, sort, payload, at, depth),
+        Sort::Expression(_) => expression(process, widths, firsts, sort, payload, at, depth),
         Sort::Item => item(
             process,
             widths,

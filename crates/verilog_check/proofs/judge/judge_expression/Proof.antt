@@ -9,11 +9,11 @@ use Rattle.verilog_check.proofs.judge.judge_expression.Tie as tie
 
 returns : tie.Need-returns
 unfolding firstRefusal judged breaks
-returns c = rw (sym (c .before .constant-broken .ensures) ∙ c .if1 .taken)
+returns c marks = rw (sym (c .before .constant-broken .ensures) ∙ c .if1 .taken)
 
 returns-2 : tie.Need-returns-2
 unfolding firstRefusal judged breaks
-returns-2 c =
+returns-2 c marks =
     let constant-broken = c .before .before .before .constant-broken in
     let if1 = c .before .before .if1 in
     let reads-missing = c .before .reads-missing in
@@ -21,7 +21,7 @@ returns-2 c =
 
 returns-3 : tie.Need-returns-3
 unfolding firstRefusal judged breaks
-returns-3 c =
+returns-3 c marks =
     let constant-broken = c .before .before .before .before .before .constant-broken in
     let if1 = c .before .before .before .before .if1 in
     let reads-missing = c .before .before .before .reads-missing in
@@ -31,7 +31,7 @@ returns-3 c =
 
 returns-4 : tie.Need-returns-4
 unfolding firstRefusal judged breaks
-returns-4 c =
+returns-4 c marks =
     let constant-broken = c .before .before .before .before .before .before .before .constant-broken in
     let if1 = c .before .before .before .before .before .before .if1 in
     let reads-missing = c .before .before .before .before .before .reads-missing in
@@ -43,7 +43,7 @@ returns-4 c =
 
 returns-5 : tie.Need-returns-5
 unfolding firstRefusal judged breaks
-returns-5 c =
+returns-5 c marks =
     let constant-broken = c .before .before .before .before .before .before .before .before .before .constant-broken in
     let if1 = c .before .before .before .before .before .before .before .before .if1 in
     let reads-missing = c .before .before .before .before .before .before .before .reads-missing in
@@ -57,7 +57,7 @@ returns-5 c =
 
 returns-6 : tie.Need-returns-6
 unfolding firstRefusal judged breaks
-returns-6 c =
+returns-6 c marks =
     let constant-broken = c .before .before .before .before .before .before .before .before .before .constant-broken in
     let if1 = c .before .before .before .before .before .before .before .before .if1 in
     let reads-missing = c .before .before .before .before .before .before .before .reads-missing in

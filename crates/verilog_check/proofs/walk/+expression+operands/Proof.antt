@@ -2,6 +2,7 @@
 use borrow.Author.Needs.{needs}
 use native.Mathlib.Omega.{arith}
 use mathlib.Core.Path.{_≡_}
+use mathlib.Core.List.{List}
 use Prim.Native.Nat.{ℕ, _<_, _≤_, _+_, _-_, _*_}
 use native.Mathlib.Nat.{add-zero}
 use lib.ListN.{length, drop}
@@ -27,26 +28,26 @@ use Rattle.verilog_check.proofs.walk.+expression+operands.{statement}
 use Rattle.verilog_check.proofs.walk.+expression+operands.Tie.{close}
 use Rattle.tagged.proofs.answers.Answer.or_lower.Reads as or-lower-reads
 
-abbrev μ-expression : Measures 4 expression-kinds.ps ℕ
-μ-expression κs a = 2 * a .1 .1 .1 .1 .1 .1 .1 .0
+abbrev μ-expression : Measures 3 expression-kinds.ps ℕ
+μ-expression κs a = 2 * a .1 .1 .1 .1 .1 .1 .0
 
-abbrev μ-operands : Measures 4 operands-kinds.ps ℕ
-μ-operands κs a = 2 * a .1 .1 .1 .1 .1 .1 .0 + 1
+abbrev μ-operands : Measures 3 operands-kinds.ps ℕ
+μ-operands κs a = 2 * a .1 .1 .1 .1 .1 .0 + 1
 
-abbrev expression-at : ℕ → In 4 expression-kinds.ps
+abbrev expression-at : ℕ → In 3 expression-kinds.ps
 expression-at t =
-    and 4 expression-kinds.ps (is 4 expression-kinds.ps μ-expression t) expression.Pre
+    and 3 expression-kinds.ps (is 3 expression-kinds.ps μ-expression t) expression.Pre
 
-abbrev expression-below : ℕ → In 4 expression-kinds.ps
+abbrev expression-below : ℕ → In 3 expression-kinds.ps
 expression-below t =
-    and 4 expression-kinds.ps (falls 4 expression-kinds.ps _<_ μ-expression t) expression.Pre
+    and 3 expression-kinds.ps (falls 3 expression-kinds.ps _<_ μ-expression t) expression.Pre
 
-abbrev operands-at : ℕ → In 4 operands-kinds.ps
-operands-at t = and 4 operands-kinds.ps (is 4 operands-kinds.ps μ-operands t) operands.Pre
+abbrev operands-at : ℕ → In 3 operands-kinds.ps
+operands-at t = and 3 operands-kinds.ps (is 3 operands-kinds.ps μ-operands t) operands.Pre
 
-abbrev operands-below : ℕ → In 4 operands-kinds.ps
+abbrev operands-below : ℕ → In 3 operands-kinds.ps
 operands-below t =
-    and 4 operands-kinds.ps (falls 4 operands-kinds.ps _<_ μ-operands t) operands.Pre
+    and 3 operands-kinds.ps (falls 3 operands-kinds.ps _<_ μ-operands t) operands.Pre
 
 abbrev expression-in : ℕ → expression-lts.Claims
 expression-in t = (judge-expression-reads.Asked, judge-expression-reads.Learnt, before-operands-reads.Asked, before-operands-reads.Learnt, operands-below t, operands.Post, or-lower-reads.Asked, or-lower-reads.Learnt)
@@ -55,49 +56,49 @@ abbrev operands-in : ℕ → operands-lts.Claims
 operands-in t = (open-field-reads.Asked, open-field-reads.Learnt, payload-at-reads.Asked, payload-at-reads.Learnt, expression-below t, expression.Post, or-lower-reads.Asked, or-lower-reads.Learnt)
 
 expression-returns : (t : ℕ) → expression-lts.Need-returns (expression-in t) (expression-at t) expression.Post
-expression-returns t c = expression-deep _ _ _ _ _ (c .if1 .taken)
+expression-returns t c marks = expression-deep _ _ _ _ _ (c .if1 .taken)
 
 expression-returns-2 : (t : ℕ) → expression-lts.Need-returns-2 (expression-in t) (expression-at t) expression.Post
-expression-returns-2 t c =
+expression-returns-2 t c marks =
     let if1 = c .before .before .before .before .before .before .if1 in
     let sort = c .before .before .before .before .sort in
     let judge-expression = c .before .before .judge-expression in
     let before-operands = c .before .before-operands in
-    own-alone (expression-of _ _ _ _ _ (if1 .left) _ (sort .given .1) _ (judge-expression .ensures)) (behind-short _ _ _ _ _ (before-operands .ensures) (c .if2 .taken))
+    own-alone (expression-of _ _ _ _ _ (if1 .left) _ (sort .given .1) _ (judge-expression .ensures marks)) (behind-short _ _ _ _ _ (before-operands .ensures) (c .if2 .taken))
 
 expression-returns-3 : (t : ℕ) → expression-lts.Need-returns-3 (expression-in t) (expression-at t) expression.Post
-expression-returns-3 t c =
-    let args = c .before .before .before .before .before .before .before .before .before .before .before .before .before .before .args in
+expression-returns-3 t c marks =
+    let args = c .before .before .before .before .before .before .before .before .before .before .before .before .before .args in
     let if1 = c .before .before .before .before .before .before .before .before .before .if1 in
     let sort = c .before .before .before .before .before .before .before .sort in
     let judge-expression = c .before .before .before .before .before .judge-expression in
     let before-operands = c .before .before .before .before .before-operands in
     let operands = c .before .operands in
-    let judge = fieldAnswer (args .widths .now) (args .marks .now) (args .firsts .now) (args .process) in
-    own-joined (expression-of judge _ _ _ _ (if1 .left) _ (sort .given .1) _ (judge-expression .ensures)) _
-    (behind (walkExpression judge (args .depth - 1)) _ _ _ _ (before-operands .ensures) _ (operands .ensures)) _ (c .or-lower .ensures)
+    let judge = fieldAnswer (args .widths .now) marks (args .firsts .now) (args .process) in
+    own-joined (expression-of judge _ _ _ _ (if1 .left) _ (sort .given .1) _ (judge-expression .ensures marks)) _
+    (behind (walkExpression judge (args .depth - 1)) _ _ _ _ (before-operands .ensures) _ (operands .ensures marks)) _ (c .or-lower .ensures)
 
 expression-returns-4 : (t : ℕ) → expression-lts.Need-returns-4 (expression-in t) (expression-at t) expression.Post
-expression-returns-4 t c = expression-other _ _ _ _ _ (c .before .if1 .left) (c .match .keys2)
+expression-returns-4 t c marks = expression-other _ _ _ _ _ (c .before .if1 .left) (c .match .keys2)
 
 abbrev operands-Inv-loop : operands-lts.InvT-loop
-operands-Inv-loop process widths marks firsts list base depth best₀ at₀ best at =
-    let walk : Walker = walkExpression (fieldAnswer widths marks firsts process) depth in
-    (at ≤ length list) × (walkAll walk (fieldsAt base list) ≡ lowerRefusal best (walkAll walk (fieldsAt (base + at) (drop at list))))
+operands-Inv-loop process widths firsts list base depth best₀ at₀ best at =
+    let walk : List ℕ → Walker = λ marks. walkExpression (fieldAnswer widths marks firsts process) depth in
+    (at ≤ length list) × ((marks : List ℕ) → walkAll (walk marks) (fieldsAt base list) ≡ lowerRefusal best (walkAll (walk marks) (fieldsAt (base + at) (drop at list))))
 
 abbrev operands-μ-loop : operands-lts.MeasureT-loop
-operands-μ-loop process widths marks firsts list base depth best₀ at₀ best at = length list - at
+operands-μ-loop process widths firsts list base depth best₀ at₀ best at = length list - at
 
 -- the field that the loop has come to ends within the list
 operands-within : (t : ℕ) (c : operands-lts.After-sort (operands-in t) (operands-at t) operands.Post operands-Inv-loop operands-μ-loop) →
-    c .before .before .before .before .loop .at + 3 + c .sort .given .0 .1 .0 ≤ length (c .before .before .before .before .before .before .before .before .before .args .list .now)
+    c .before .before .before .before .loop .at + 3 + c .sort .given .0 .1 .0 ≤ length (c .before .before .before .before .before .before .before .before .args .list .now)
 operands-within t c =
-    let args = c .before .before .before .before .before .before .before .before .before .args in
+    let args = c .before .before .before .before .before .before .before .before .args in
     let open-field = c .before .before .open-field in
     field-within (args .list .now) _ _ (open-field .ensures) _ _ (c .sort .given .1)
 
 operands-loop-holds : (t : ℕ) → operands-lts.Need-loop-holds (operands-in t) (operands-at t) operands.Post operands-Inv-loop operands-μ-loop
-operands-loop-holds t c = (search needs, rw add-zero)
+operands-loop-holds t c = (search needs, λ marks. rw add-zero)
 
 operands-payload-at-requires : (t : ℕ) → operands-lts.Need-payload-at-requires (operands-in t) (operands-at t) operands.Post operands-Inv-loop operands-μ-loop
 operands-payload-at-requires t c κs = (omega (arith, operands-within t (c .before)), search needs)
@@ -107,7 +108,7 @@ operands-add-expression t c = omega (arith, operands-within t (c .before .before
 
 operands-expression-requires : (t : ℕ) → operands-lts.Need-expression-requires (operands-in t) (operands-at t) operands.Post operands-Inv-loop operands-μ-loop
 operands-expression-requires t c κs =
-    let args = c .before .before .before .before .before .before .before .before .before .before .before .args in
+    let args = c .before .before .before .before .before .before .before .before .before .before .args in
     let open-field = c .before .before .before .before .open-field in
     let sort = c .before .before .sort in
     omega (arith, payload-within (args .list .now) _ _ (open-field .ensures) _ _ (sort .given .1) _ (c .payload-at .ensures))
@@ -127,13 +128,13 @@ operands-loop-again t c = let loop = c .before .before .before .before .before .
     let sort = c .before .before .before .before .sort in
     let payload-at = c .before .before .payload-at in
     let expression = c .before .expression in
-    (omega (arith, operands-within t (c .before .before .before .before)), walk-next (all-steps _) _ (loop .best) _ _ _ (loop .inv .1) _ (open-field .ensures) _ _ (sort .given .1) _ (payload-at .ensures) _ (expression .ensures) _ (c .or-lower .ensures))
+    (omega (arith, operands-within t (c .before .before .before .before)), λ marks. walk-next (all-steps _) _ (loop .best) _ _ _ (loop .inv .1 marks) _ (open-field .ensures) _ _ (sort .given .1) _ (payload-at .ensures) _ (expression .ensures marks) _ (c .or-lower .ensures))
 
 operands-returns : (t : ℕ) → operands-lts.Need-returns (operands-in t) (operands-at t) operands.Post operands-Inv-loop operands-μ-loop
-operands-returns t c =
+operands-returns t c marks =
     let loop = c .before .before .before .before .loop in
     let open-field = c .before .before .open-field in
-    walk-done (all-steps _) _ (loop .best) _ _ _ (loop .inv .1) _ (open-field .ensures) _ (c .enum-told .given .1)
+    walk-done (all-steps _) _ (loop .best) _ _ _ (loop .inv .1 marks) _ (open-field .ensures) _ (c .enum-told .given .1)
 
 pub +expression+operands-spec : {M : Type 1} → statement M
 +expression+operands-spec = close μ-expression μ-operands (λ t. expression-lts.spec (expression-in t) (expression-at t) expression.Post

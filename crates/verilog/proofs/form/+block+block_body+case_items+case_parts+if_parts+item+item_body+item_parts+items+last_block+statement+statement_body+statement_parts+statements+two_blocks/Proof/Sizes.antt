@@ -1,4 +1,4 @@
--- What falls with each call of the cycle: a multiple of the depth that is left, and at one depth a rank. Then what each function is given at a size and below it.
+-- What falls with each call of the cycle: eight times the depth that is left, and at one depth a rank. Then what each function is given at a size and below it.
 use Prim.Native.Nat.{ℕ, _<_, _+_, _*_}
 use borrow.Fn.Kinds.{In}
 use borrow.Fn.PlainCycle.{Measures, is, falls, and}
