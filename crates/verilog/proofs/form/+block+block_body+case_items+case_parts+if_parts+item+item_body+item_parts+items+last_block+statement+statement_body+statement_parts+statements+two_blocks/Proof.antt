@@ -23,5 +23,8 @@ use Sizes.{μ-block, μ-block-body, μ-case-items, μ-case-parts, μ-if-parts, �
 pub +block+block-body+case-items+case-parts+if-parts+item+item-body+item-parts+items+last-block+statement+statement-body+statement-parts+statements+two-blocks-spec :
     {M : Type 1} → statement M
 +block+block-body+case-items+case-parts+if-parts+item+item-body+item-parts+items+last-block+statement+statement-body+statement-parts+statements+two-blocks-spec =
-    close μ-block μ-block-body μ-case-items μ-case-parts μ-if-parts μ-item μ-item-body μ-item-parts μ-items μ-last-block μ-statement μ-statement-body μ-statement-parts μ-statements μ-two-blocks
-    (λ t. Block.meets t) (λ t. BlockBody.meets t) (λ t. CaseItems.meets t) (λ t. CaseParts.meets t) (λ t. IfParts.meets t) (λ t. Item.meets t) (λ t. ItemBody.meets t) (λ t. ItemParts.meets t) (λ t. Items.meets t) (λ t. LastBlock.meets t) (λ t. Statement.meets t) (λ t. StatementBody.meets t) (λ t. StatementParts.meets t) (λ t. Statements.meets t) (λ t. TwoBlocks.meets t)
+    close μ-block μ-block-body μ-case-items μ-case-parts μ-if-parts μ-item μ-item-body μ-item-parts μ-items μ-last-block μ-statement μ-statement-body
+    μ-statement-parts μ-statements μ-two-blocks
+    (λ t. Block.meets t) (λ t. BlockBody.meets t) (λ t. CaseItems.meets t) (λ t. CaseParts.meets t) (λ t. IfParts.meets t) (λ t. Item.meets t)
+    (λ t. ItemBody.meets t) (λ t. ItemParts.meets t) (λ t. Items.meets t) (λ t. LastBlock.meets t) (λ t. Statement.meets t)
+    (λ t. StatementBody.meets t) (λ t. StatementParts.meets t) (λ t. Statements.meets t) (λ t. TwoBlocks.meets t)

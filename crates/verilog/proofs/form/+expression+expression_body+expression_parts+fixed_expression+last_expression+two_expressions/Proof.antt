@@ -15,4 +15,5 @@ pub +expression+expression-body+expression-parts+fixed-expression+last-expressio
     {M : Type 1} → statement M
 +expression+expression-body+expression-parts+fixed-expression+last-expression+two-expressions-spec =
     close μ-expression μ-expression-body μ-expression-parts μ-fixed-expression μ-last-expression μ-two-expressions
-    (λ t. Expression.meets t) (λ t. ExpressionBody.meets t) (λ t. ExpressionParts.meets t) (λ t. FixedExpression.meets t) (λ t. LastExpression.meets t) (λ t. TwoExpressions.meets t)
+    (λ t. Expression.meets t) (λ t. ExpressionBody.meets t) (λ t. ExpressionParts.meets t) (λ t. FixedExpression.meets t)
+    (λ t. LastExpression.meets t) (λ t. TwoExpressions.meets t)

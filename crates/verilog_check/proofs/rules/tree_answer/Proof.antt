@@ -104,7 +104,9 @@ returns c =
     let survey = c .before .before .before .before .before .before .before .survey in
     let declarations-answer = c .before .before .before .before .before .declarations-answer in
     let processes-answer = c .before .processes-answer in
-    answered (args .file .now) (read-bytes (args .file .now) (shared-slice-known .given)) (pre .0) (pre .1) (from .result .now) (from .ensures) (declared-bytes .result) (declared-bytes .ensures) (from2 .result .now) (from2 .ensures) (variable-table .result) (variable-table .ensures) (told .result) (told .ensures .1) _ refl (zeros-at 64) _ (survey .ensures)
+    answered (args .file .now) (read-bytes (args .file .now) (shared-slice-known .given)) (pre .0) (pre .1) (from .result .now) (from .ensures)
+    (declared-bytes .result) (declared-bytes .ensures) (from2 .result .now) (from2 .ensures) (variable-table .result) (variable-table .ensures)
+    (told .result) (told .ensures .1) _ refl (zeros-at 64) _ (survey .ensures)
     _ _ _ (declarations-answer .ensures) (processes-answer .ensures) (c .or-lower .ensures)
 
 pub tree-answer-spec : {M : Type 1} → statement M

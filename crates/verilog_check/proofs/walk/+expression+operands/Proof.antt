@@ -64,7 +64,8 @@ expression-returns-2 t c marks =
     let sort = c .before .before .before .before .sort in
     let judge-expression = c .before .before .judge-expression in
     let before-operands = c .before .before-operands in
-    own-alone (expression-of _ _ _ _ _ (if1 .left) _ (sort .given .1) _ (judge-expression .ensures marks)) (behind-short _ _ _ _ _ (before-operands .ensures) (c .if2 .taken))
+    own-alone (expression-of _ _ _ _ _ (if1 .left) _ (sort .given .1) _ (judge-expression .ensures marks))
+    (behind-short _ _ _ _ _ (before-operands .ensures) (c .if2 .taken))
 
 expression-returns-3 : (t : ℕ) → expression-lts.Need-returns-3 (expression-in t) (expression-at t) expression.Post
 expression-returns-3 t c marks =

@@ -14,7 +14,9 @@ returns c =
     let enum-told = c .before .before .before .enum-told in
     let judge-process = c .before .before .judge-process in
     let statements = c .before .statements in
-    own-joined (process-of (fieldAnswer (args .widths .now) (args .marks .now) (args .firsts .now) (args .process)) _ _ _ _ (enum-told .given .1) _ (judge-process .ensures (args .widths .now) (args .marks .now) (args .firsts .now))) _ (statements .ensures) _ (c .or-lower .ensures)
+    own-joined
+    (process-of (fieldAnswer (args .widths .now) (args .marks .now) (args .firsts .now) (args .process)) _ _ _ _ (enum-told .given .1) _ (judge-process .ensures (args .widths .now) (args .marks .now) (args .firsts .now)))
+    _ (statements .ensures) _ (c .or-lower .ensures)
 
 returns-2 : tie.Need-returns-2
 returns-2 c = process-other _ _ _ _ _ (c .match .keys2)

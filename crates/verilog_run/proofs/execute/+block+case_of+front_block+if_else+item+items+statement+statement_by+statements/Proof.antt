@@ -18,4 +18,5 @@ pub +block+case-of+front-block+if-else+item+items+statement+statement-by+stateme
     {M : Type 1} → statement M
 +block+case-of+front-block+if-else+item+items+statement+statement-by+statements-spec =
     close μ-block μ-case-of μ-front-block μ-if-else μ-item μ-items μ-statement μ-statement-by μ-statements
-    (λ t. Block.meets t) (λ t. CaseOf.meets t) (λ t. FrontBlock.meets t) (λ t. IfElse.meets t) (λ t. Item.meets t) (λ t. Items.meets t) (λ t. Statement.meets t) (λ t. StatementBy.meets t) (λ t. Statements.meets t)
+    (λ t. Block.meets t) (λ t. CaseOf.meets t) (λ t. FrontBlock.meets t) (λ t. IfElse.meets t) (λ t. Item.meets t) (λ t. Items.meets t)
+    (λ t. Statement.meets t) (λ t. StatementBy.meets t) (λ t. Statements.meets t)

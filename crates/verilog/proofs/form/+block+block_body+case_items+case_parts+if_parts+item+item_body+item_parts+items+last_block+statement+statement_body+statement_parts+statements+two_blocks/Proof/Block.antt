@@ -47,4 +47,5 @@ module _ (t : ℕ) where
 
   pub meets : {M : Type 1} → lts.Closed (calls t) (block-at t) block.Post M
   meets =
-      lts.spec (calls t) (block-at t) block.Post (λ c κs. search needs) (λ c. search needs) add-block-body (λ c. search needs) (λ c. search needs) part-block-body-end block-body-requires add-passed (λ c κs. search needs) (λ c. search needs) returns returns-2
+      lts.spec (calls t) (block-at t) block.Post (λ c κs. search needs) (λ c. search needs) add-block-body (λ c. search needs) (λ c. search needs)
+      part-block-body-end block-body-requires add-passed (λ c κs. search needs) (λ c. search needs) returns returns-2

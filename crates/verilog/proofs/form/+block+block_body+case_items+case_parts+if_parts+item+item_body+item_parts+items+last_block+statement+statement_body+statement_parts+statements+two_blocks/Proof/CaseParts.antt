@@ -41,4 +41,5 @@ module _ (t : ℕ) where
 
   pub meets : {M : Type 1} → lts.Closed (calls t) (case-parts-at t) case-parts.Post M
   meets =
-      lts.spec (calls t) (case-parts-at t) case-parts.Post (λ c κs. search needs) (λ c. search needs) sub-case-items part-case-items-start (λ c. search needs) add-case-items case-items-requires (λ c. search needs) returns returns-2
+      lts.spec (calls t) (case-parts-at t) case-parts.Post (λ c κs. search needs) (λ c. search needs) sub-case-items part-case-items-start
+      (λ c. search needs) add-case-items case-items-requires (λ c. search needs) returns returns-2

@@ -41,4 +41,5 @@ module _ (t : ℕ) where
 
   pub meets : {M : Type 1} → lts.Closed (calls t) (if-parts-at t) if-parts.Post M
   meets =
-      lts.spec (calls t) (if-parts-at t) if-parts.Post (λ c κs. search needs) (λ c. search needs) sub-two-blocks part-two-blocks-start (λ c. search needs) add-two-blocks two-blocks-requires (λ c. search needs) returns returns-2
+      lts.spec (calls t) (if-parts-at t) if-parts.Post (λ c κs. search needs) (λ c. search needs) sub-two-blocks part-two-blocks-start
+      (λ c. search needs) add-two-blocks two-blocks-requires (λ c. search needs) returns returns-2

@@ -47,4 +47,5 @@ module _ (t : ℕ) where
 
   pub meets : {M : Type 1} → lts.Closed (calls t) (item-at t) item.Post M
   meets =
-      lts.spec (calls t) (item-at t) item.Post (λ c κs. search needs) (λ c. search needs) add-item-body (λ c. search needs) (λ c. search needs) part-item-body-end item-body-requires add-passed (λ c κs. search needs) (λ c. search needs) returns returns-2
+      lts.spec (calls t) (item-at t) item.Post (λ c κs. search needs) (λ c. search needs) add-item-body (λ c. search needs) (λ c. search needs)
+      part-item-body-end item-body-requires add-passed (λ c κs. search needs) (λ c. search needs) returns returns-2

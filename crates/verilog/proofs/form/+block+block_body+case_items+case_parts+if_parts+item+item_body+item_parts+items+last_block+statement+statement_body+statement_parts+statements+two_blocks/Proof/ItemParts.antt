@@ -41,4 +41,5 @@ module _ (t : ℕ) where
 
   pub meets : {M : Type 1} → lts.Closed (calls t) (item-parts-at t) item-parts.Post M
   meets =
-      lts.spec (calls t) (item-parts-at t) item-parts.Post (λ c κs. search needs) (λ c. search needs) sub-last-block part-last-block-start (λ c. search needs) add-last-block last-block-requires (λ c. search needs) returns returns-2
+      lts.spec (calls t) (item-parts-at t) item-parts.Post (λ c κs. search needs) (λ c. search needs) sub-last-block part-last-block-start
+      (λ c. search needs) add-last-block last-block-requires (λ c. search needs) returns returns-2

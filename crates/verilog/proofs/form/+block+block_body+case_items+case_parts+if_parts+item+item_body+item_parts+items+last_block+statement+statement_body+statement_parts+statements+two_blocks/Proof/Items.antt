@@ -96,4 +96,6 @@ module _ (t : ℕ) where
 
   pub meets : {M : Type 1} → lts.Closed (calls t) (items-at t) items.Post M
   meets =
-      lts.spec (calls t) (items-at t) items.Post Inv-loop μ-loop loop-holds (λ c. search needs) (λ c κs. search needs) returns (λ c. search needs) (λ c. search needs) (λ c. search needs) (λ c. search needs) (λ c κs. search needs) (λ c. search needs) add-at loop-less loop-again (λ c. search needs) returns-2 returns-3
+      lts.spec (calls t) (items-at t) items.Post Inv-loop μ-loop loop-holds (λ c. search needs) (λ c κs. search needs) returns (λ c. search needs)
+      (λ c. search needs) (λ c. search needs) (λ c. search needs) (λ c κs. search needs) (λ c. search needs) add-at loop-less loop-again
+      (λ c. search needs) returns-2 returns-3

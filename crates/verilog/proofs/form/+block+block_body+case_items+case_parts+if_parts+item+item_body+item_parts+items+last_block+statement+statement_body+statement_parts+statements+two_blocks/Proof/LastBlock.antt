@@ -34,4 +34,5 @@ module _ (t : ℕ) where
 
   pub meets : {M : Type 1} → lts.Closed (calls t) (last-block-at t) last-block.Post M
   meets =
-      lts.spec (calls t) (last-block-at t) last-block.Post (λ c κs. search needs) (λ c. search needs) sub-at-end part-at-end-start (λ c. search needs) add-at-end (λ c κs. search needs) (λ c. search needs) returns returns-2
+      lts.spec (calls t) (last-block-at t) last-block.Post (λ c κs. search needs) (λ c. search needs) sub-at-end part-at-end-start (λ c. search needs)
+      add-at-end (λ c κs. search needs) (λ c. search needs) returns returns-2

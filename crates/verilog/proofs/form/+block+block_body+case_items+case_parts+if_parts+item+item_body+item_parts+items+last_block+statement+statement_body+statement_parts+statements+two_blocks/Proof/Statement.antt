@@ -47,4 +47,5 @@ module _ (t : ℕ) where
 
   pub meets : {M : Type 1} → lts.Closed (calls t) (statement-at t) statement′.Post M
   meets =
-      lts.spec (calls t) (statement-at t) statement′.Post (λ c κs. search needs) (λ c. search needs) add-statement-body (λ c. search needs) (λ c. search needs) part-statement-body-end statement-body-requires add-passed (λ c κs. search needs) (λ c. search needs) returns returns-2
+      lts.spec (calls t) (statement-at t) statement′.Post (λ c κs. search needs) (λ c. search needs) add-statement-body (λ c. search needs)
+      (λ c. search needs) part-statement-body-end statement-body-requires add-passed (λ c κs. search needs) (λ c. search needs) returns returns-2

@@ -26,4 +26,5 @@ module _ (t : ℕ) where
 
   pub meets : {M : Type 1} → lts.Closed (calls t) (statement-body-at t) statement-body.Post M
   meets =
-      lts.spec (calls t) (statement-body-at t) statement-body.Post returns (λ c. search needs) (λ c. search needs) (λ c. search needs) (λ c κs. search needs) returns-2 returns-3
+      lts.spec (calls t) (statement-body-at t) statement-body.Post returns (λ c. search needs) (λ c. search needs) (λ c. search needs)
+      (λ c κs. search needs) returns-2 returns-3

@@ -75,4 +75,5 @@ module _ (t : ℕ) where
 
   pub meets : {M : Type 1} → lts.Closed (calls t) (statements-at t) statements.Post M
   meets =
-      lts.spec (calls t) (statements-at t) statements.Post Inv-loop μ-loop loop-holds (λ c. search needs) (λ c. search needs) (λ c. search needs) (λ c. search needs) (λ c κs. search needs) (λ c. search needs) add-at loop-less loop-again (λ c. search needs) returns returns-2
+      lts.spec (calls t) (statements-at t) statements.Post Inv-loop μ-loop loop-holds (λ c. search needs) (λ c. search needs) (λ c. search needs)
+      (λ c. search needs) (λ c κs. search needs) (λ c. search needs) add-at loop-less loop-again (λ c. search needs) returns returns-2

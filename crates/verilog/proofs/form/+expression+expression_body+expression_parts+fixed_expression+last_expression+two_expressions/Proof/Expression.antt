@@ -47,4 +47,5 @@ module _ (t : ℕ) where
 
   pub meets : {M : Type 1} → lts.Closed (calls t) (expression-at t) expression.Post M
   meets =
-      lts.spec (calls t) (expression-at t) expression.Post (λ c κs. search needs) (λ c. search needs) add-expression-body (λ c. search needs) (λ c. search needs) part-expression-body-end expression-body-requires add-passed (λ c κs. search needs) (λ c. search needs) returns returns-2
+      lts.spec (calls t) (expression-at t) expression.Post (λ c κs. search needs) (λ c. search needs) add-expression-body (λ c. search needs)
+      (λ c. search needs) part-expression-body-end expression-body-requires add-passed (λ c κs. search needs) (λ c. search needs) returns returns-2

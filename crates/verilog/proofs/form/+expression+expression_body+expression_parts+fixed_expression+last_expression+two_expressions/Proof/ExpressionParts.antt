@@ -42,4 +42,6 @@ module _ (t : ℕ) where
 
   pub meets : {M : Type 1} → lts.Closed (calls t) (expression-parts-at t) expression-parts.Post M
   meets =
-      lts.spec (calls t) (expression-parts-at t) expression-parts.Post (λ c. search needs) (λ c κs. search needs) (λ c. search needs) (λ c κs. search needs) (λ c. search needs) (λ c κs. search needs) (λ c. search needs) (λ c κs. search needs) (λ c. search needs) (λ c κs. search needs) (λ c. search needs) (λ c κs. search needs) returns returns-2 returns-3 returns-4 returns-5 returns-6
+      lts.spec (calls t) (expression-parts-at t) expression-parts.Post (λ c. search needs) (λ c κs. search needs) (λ c. search needs)
+      (λ c κs. search needs) (λ c. search needs) (λ c κs. search needs) (λ c. search needs) (λ c κs. search needs) (λ c. search needs)
+      (λ c κs. search needs) (λ c. search needs) (λ c κs. search needs) returns returns-2 returns-3 returns-4 returns-5 returns-6

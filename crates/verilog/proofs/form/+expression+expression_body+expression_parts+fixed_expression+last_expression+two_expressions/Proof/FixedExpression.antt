@@ -19,4 +19,5 @@ module _ (t : ℕ) where
 
   pub meets : {M : Type 1} → lts.Closed (calls t) (fixed-expression-at t) fixed-expression.Post M
   meets =
-      lts.spec (calls t) (fixed-expression-at t) fixed-expression.Post (λ c. search needs) (λ c. search needs) (λ c. search needs) (λ c. search needs) (λ c κs. search needs) returns returns-2
+      lts.spec (calls t) (fixed-expression-at t) fixed-expression.Post (λ c. search needs) (λ c. search needs) (λ c. search needs) (λ c. search needs)
+      (λ c κs. search needs) returns returns-2

@@ -44,4 +44,5 @@ module _ (t : ℕ) where
 
   pub meets : {M : Type 1} → lts.Closed (calls t) (two-expressions-at t) two-expressions.Post M
   meets =
-      lts.spec (calls t) (two-expressions-at t) two-expressions.Post (λ c κs. search needs) (λ c. search needs) sub-last-expression part-last-expression-start (λ c. search needs) add-last-expression last-expression-requires (λ c. search needs) returns returns-2
+      lts.spec (calls t) (two-expressions-at t) two-expressions.Post (λ c κs. search needs) (λ c. search needs) sub-last-expression
+      part-last-expression-start (λ c. search needs) add-last-expression last-expression-requires (λ c. search needs) returns returns-2

@@ -21,7 +21,8 @@ module _ (t : ℕ) where
       let judge-item = c .before .before .judge-item in
       let parts = c .before .parts in
       let judge = fieldAnswer (args .widths .now) (args .marks .now) (args .firsts .now) (args .process) in
-      own-joined (item-of judge _ _ _ _ _ _ (judge-item .ensures (args .widths .now) (args .marks .now) (args .firsts .now) (args .process))) _ (parts .ensures) _ (c .or-lower .ensures)
+      own-joined (item-of judge _ _ _ _ _ _ (judge-item .ensures (args .widths .now) (args .marks .now) (args .firsts .now) (args .process))) _
+      (parts .ensures) _ (c .or-lower .ensures)
 
   pub meets : {M : Type 1} → lts.Closed (calls t) (item-at t) item.Post M
   meets =

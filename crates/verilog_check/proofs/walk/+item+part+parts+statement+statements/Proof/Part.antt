@@ -39,4 +39,6 @@ module _ (t : ℕ) where
 
   pub meets : {M : Type 1} → lts.Closed (calls t) (part-at t) part.Post M
   meets =
-      lts.spec (calls t) (part-at t) part.Post returns (λ c. search needs) (λ c κs. search needs) (λ c. search needs) (λ c. search needs) (λ c κs. search needs) (λ c. search needs) (λ c. search needs) (λ c. search needs) (λ c κs. search needs) returns-2 returns-3 returns-4 returns-5
+      lts.spec (calls t) (part-at t) part.Post returns (λ c. search needs) (λ c κs. search needs) (λ c. search needs) (λ c. search needs)
+      (λ c κs. search needs) (λ c. search needs) (λ c. search needs) (λ c. search needs) (λ c κs. search needs) returns-2 returns-3 returns-4
+      returns-5

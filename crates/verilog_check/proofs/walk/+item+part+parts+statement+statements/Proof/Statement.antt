@@ -28,7 +28,8 @@ module _ (t : ℕ) where
       let sort = c .before .before .before .before .sort in
       let judge-statement = c .before .before .judge-statement in
       let before-parts = c .before .before-parts in
-      own-alone (statement-of _ _ _ _ _ _ (if1 .left) _ (sort .given .1) _ (judge-statement .ensures) _ refl) (behind-short _ _ _ _ _ (before-parts .ensures) (c .if2 .taken))
+      own-alone (statement-of _ _ _ _ _ _ (if1 .left) _ (sort .given .1) _ (judge-statement .ensures) _ refl)
+      (behind-short _ _ _ _ _ (before-parts .ensures) (c .if2 .taken))
 
   returns-3 : lts.Need-returns-3 (calls t) (statement-at t) statement′.Post
   returns-3 c =
@@ -48,4 +49,6 @@ module _ (t : ℕ) where
 
   pub meets : {M : Type 1} → lts.Closed (calls t) (statement-at t) statement′.Post M
   meets =
-      lts.spec (calls t) (statement-at t) statement′.Post returns (λ c. search needs) (λ c. search needs) (λ c κs. search needs) (λ c κs. search needs) returns-2 (λ c. search needs) (λ c κs. search needs) (λ c. search needs) (λ c. search needs) (λ c. search needs) (λ c. search needs) (λ c. search needs) (λ c. search needs) (λ c κs. search needs) (λ c κs. search needs) returns-3 returns-4
+      lts.spec (calls t) (statement-at t) statement′.Post returns (λ c. search needs) (λ c. search needs) (λ c κs. search needs)
+      (λ c κs. search needs) returns-2 (λ c. search needs) (λ c κs. search needs) (λ c. search needs) (λ c. search needs) (λ c. search needs)
+      (λ c. search needs) (λ c. search needs) (λ c. search needs) (λ c κs. search needs) (λ c κs. search needs) returns-3 returns-4

@@ -82,4 +82,6 @@ module _ (t : ℕ) where
 
   pub meets : {M : Type 1} → lts.Closed (calls t) (statements-at t) statements.Post M
   meets =
-      lts.spec (calls t) (statements-at t) statements.Post Inv-loop μ-loop loop-holds (λ c. search needs) (λ c. search needs) (λ c. search needs) (λ c κs. search needs) (λ c. search needs) payload-at-requires add-statement statement-requires (λ c κs. search needs) add-at add-at-2 loop-less loop-again (λ c. search needs) returns
+      lts.spec (calls t) (statements-at t) statements.Post Inv-loop μ-loop loop-holds (λ c. search needs) (λ c. search needs) (λ c. search needs)
+      (λ c κs. search needs) (λ c. search needs) payload-at-requires add-statement statement-requires (λ c κs. search needs) add-at add-at-2 loop-less
+      loop-again (λ c. search needs) returns

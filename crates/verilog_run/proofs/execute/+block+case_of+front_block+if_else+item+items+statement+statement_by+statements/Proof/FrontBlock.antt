@@ -46,4 +46,5 @@ module _ (t : ℕ) where
 
   pub meets : {M : Type 1} → lts.Closed (calls t) (front-block-at t) front-block.Post M
   meets =
-      lts.spec (calls t) (front-block-at t) front-block.Post (λ c κs. search needs) (λ c. search needs) add-block (λ c. search needs) (λ c. search needs) part-block-end block-requires (λ c. search needs) (λ c. search needs) (λ c. search needs) returns returns-2
+      lts.spec (calls t) (front-block-at t) front-block.Post (λ c κs. search needs) (λ c. search needs) add-block (λ c. search needs)
+      (λ c. search needs) part-block-end block-requires (λ c. search needs) (λ c. search needs) (λ c. search needs) returns returns-2

@@ -49,4 +49,5 @@ module _ (t : ℕ) where
 
   pub meets : {M : Type 1} → lts.Closed (calls t) (if-else-at t) if-else.Post M
   meets =
-      lts.spec (calls t) (if-else-at t) if-else.Post (λ c κs. search needs) (λ c κs. search needs) front-block-requires (λ c κs. search needs) front-block-requires-2 (λ c. search needs) (λ c. search needs) returns (λ c. search needs) (λ c. search needs) returns-2
+      lts.spec (calls t) (if-else-at t) if-else.Post (λ c κs. search needs) (λ c κs. search needs) front-block-requires (λ c κs. search needs)
+      front-block-requires-2 (λ c. search needs) (λ c. search needs) returns (λ c. search needs) (λ c. search needs) returns-2

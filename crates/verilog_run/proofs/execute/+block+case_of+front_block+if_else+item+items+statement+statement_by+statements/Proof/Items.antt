@@ -135,4 +135,8 @@ module _ (t : ℕ) where
 
   pub meets : {M : Type 1} → lts.Closed (calls t) (items-at t) items.Post M
   meets =
-      lts.spec (calls t) (items-at t) items.Post Inv-loop μ-loop loop-holds (λ c. search needs) (λ c. search needs) (λ c. search needs) (λ c κs. search needs) (λ c. search needs) (λ c. search needs) (λ c. search needs) returns (λ c. search needs) payload-at-requires (λ c. search needs) (λ c κs. search needs) item-requires (λ c. search needs) (λ c. search needs) returns-2 (λ c. search needs) add-at-2 loop-less loop-again (λ c. search needs) block-requires (λ c. search needs) (λ c. search needs) returns-3 (λ c. search needs) (λ c. search needs) returns-4
+      lts.spec (calls t) (items-at t) items.Post Inv-loop μ-loop loop-holds (λ c. search needs) (λ c. search needs) (λ c. search needs)
+      (λ c κs. search needs) (λ c. search needs) (λ c. search needs) (λ c. search needs) returns (λ c. search needs) payload-at-requires
+      (λ c. search needs) (λ c κs. search needs) item-requires (λ c. search needs) (λ c. search needs) returns-2 (λ c. search needs) add-at-2
+      loop-less loop-again (λ c. search needs) block-requires (λ c. search needs) (λ c. search needs) returns-3 (λ c. search needs)
+      (λ c. search needs) returns-4
