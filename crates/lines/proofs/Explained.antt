@@ -5,26 +5,26 @@ use mathlib.Core.Bool.{true}
 use mathlib.Core.List.{List, [], ◌∷◌}
 use Rattle.words.proofs.Cases.{Case, case, passes}
 use Rattle.words.specs.Operators as operators
-use Rattle.tagged.specs.Order.{number_of}
+use Rattle.tagged.specs.Answers.{number_of}
 use Rattle.tagged.specs.Bytes as bytes
 use Rattle.tagged.specs.Sorts as sorts
 use Rattle.tagged.specs.Fields as fields
 use Rattle.tagged.specs.Files as files
-use Rattle.names.specs.Names as names
+use Rattle.tagged.specs.Names as names
 use Rattle.tagged.specs.Refusals as refusals
-use Rattle.declarations.specs.Rows as rows
-use Rattle.declarations.specs.Runs as runs
-use Rattle.declarations.specs.Declarations as declarations
+use Rattle.tagged.specs.Rows as rows
+use Rattle.tagged.specs.Runs as runs
+use Rattle.tagged.specs.Declarations as declarations
 use Rattle.tagged.proofs.Cases.{answering}
-use Rattle.netlist_lists.specs.Form as netlist-form
-use Rattle.netlist_lists.specs.Reading as netlist-reading
-use Rattle.netlist_lists.specs.Rules as netlist-rules
-use Rattle.netlist_lists.specs.Answer.{lists_answer, netlist_answer, netlist_file_broken}
+use Rattle.netlist.specs.Form as netlist-form
+use Rattle.netlist.specs.Reading as netlist-reading
+use Rattle.netlist.specs.Rules as netlist-rules
+use Rattle.netlist.specs.Answer.{lists_answer, netlist_answer}
 use Rattle.verilog.specs.Form as form
 use Rattle.verilog.specs.Reading as reading
 use Rattle.verilog.specs.Nodes as nodes
 use Rattle.verilog.specs.Rules as rules
-use Rattle.verilog.specs.Answer.{tree_answer, module_answer, module_file_broken}
+use Rattle.verilog.specs.Answer.{tree_answer, module_answer}
 use Rattle.verilog.specs.Run.{run_answer}
 
 pub table : List Case
@@ -117,5 +117,5 @@ table =
     ∷ []
 
 pub explained : passes table ≡ true
-unfolding table module_answer module_file_broken tree_answer number_of refusals.first_broken refusals.first_of files.file_answer files.outer_answer fields.open_of fields.field_by fields.then_by fields.fixed_then fields.ended fields.many_from fields.read_from fields.field_bytes fields.all_bytes_of bytes.number_of_two bytes.number_of_four bytes.four_of bytes.two_bytes bytes.four_bytes sorts.sort_of sorts.tag_of sorts.declaration_sort sorts.statement_sort sorts.expression_sort sorts.cell_sort names.is_name names.is_name_byte names.all_name_bytes names.same_name declarations.declaration_bytes declarations.declaration_body declarations.declarations_step declarations.declaration_read declarations.declarations_at declarations.value_broken declarations.name_taken declarations.name_broken declarations.count_broken form.module_form form.expression_body form.statement_body form.block_body form.item_body form.constant_body form.expression_bytes form.statement_bytes form.block_payload form.items_bytes form.process_bytes reading.tree_in reading.expression_in reading.statement_in reading.block_in reading.item_in nodes.expression_nodes nodes.statement_nodes nodes.block_nodes nodes.items_nodes nodes.process_nodes nodes.declaration_nodes nodes.module_nodes rules.expression_width rules.module_tests rules.module_broken operators.two_width operators.one_width run_answer netlist_answer netlist_file_broken lists_answer fields.placed_by declarations.declaration_tests rows.row_numbers rows.all_fit rows.rows_fit rows.row_answer runs.run_answer_of netlist-form.operand_bytes netlist-form.cell_bytes netlist-form.drive_bytes netlist-form.netlist_payload netlist-form.netlist_bytes netlist-form.slots_by netlist-form.cell_body netlist-form.drive_body netlist-form.cells_step netlist-form.drives_judge netlist-form.netlist_body netlist-form.netlist_form netlist-reading.operand_in netlist-reading.cell_read netlist-reading.drive_read netlist-reading.cells_at netlist-reading.drives_at netlist-reading.lists_in netlist-rules.operand_value_broken netlist-rules.operand_missing netlist-rules.operand_unlike netlist-rules.cell_unlike netlist-rules.cell_outside netlist-rules.cell_tests netlist-rules.registers_from netlist-rules.not_next netlist-rules.drive_tests netlist-rules.whole_rules netlist-rules.netlist_broken
+unfolding table module_answer tree_answer number_of refusals.first_broken refusals.first_refusal files.file_answer files.outer_answer fields.open_of fields.field_by fields.then_by fields.fixed_then fields.ended fields.many_from fields.read_from fields.field_bytes fields.all_bytes_of bytes.number_of_two bytes.number_of_four bytes.four_of bytes.two_bytes bytes.four_bytes sorts.sort_of sorts.tag_of sorts.declaration_sort sorts.statement_sort sorts.expression_sort sorts.cell_sort names.is_name names.is_name_byte names.all_name_bytes names.same_name declarations.declaration_bytes declarations.declaration_body declarations.declarations_step declarations.declaration_read declarations.declarations_at declarations.value_broken declarations.name_taken declarations.name_broken declarations.count_broken form.module_form form.expression_body form.statement_body form.block_body form.item_body form.constant_body form.expression_bytes form.statement_bytes form.block_payload form.items_bytes form.process_bytes reading.tree_in reading.expression_in reading.statement_in reading.block_in reading.item_in nodes.expression_nodes nodes.statement_nodes nodes.block_nodes nodes.items_nodes nodes.process_nodes nodes.declaration_nodes nodes.module_nodes rules.expression_width rules.breaks rules.module_broken operators.two_width operators.one_width run_answer netlist_answer lists_answer fields.placed_by declarations.declaration_breaks rows.row_numbers rows.all_fit rows.rows_fit rows.row_answer runs.run_answer_of netlist-form.operand_bytes netlist-form.cell_bytes netlist-form.drive_bytes netlist-form.netlist_payload netlist-form.netlist_bytes netlist-form.slots_by netlist-form.cell_body netlist-form.drive_body netlist-form.cells_step netlist-form.drives_judge netlist-form.netlist_body netlist-form.netlist_form netlist-reading.operand_in netlist-reading.cell_read netlist-reading.drive_read netlist-reading.cells_at netlist-reading.drives_at netlist-reading.lists_in netlist-rules.operand_value_broken netlist-rules.operand_missing netlist-rules.operand_unlike netlist-rules.cell_unlike netlist-rules.cell_outside netlist-rules.cell_breaks netlist-rules.registers_from netlist-rules.not_next netlist-rules.drive_breaks netlist-rules.whole_broken netlist-rules.netlist_broken
 explained = refl

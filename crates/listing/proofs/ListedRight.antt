@@ -11,19 +11,19 @@ use borrow.Author.Tests.{eqb-true, ne_eqb}
 use Rattle.tagged.specs.Bytes.{AllBytes}
 use Rattle.tagged.specs.Sorts.{is_declaration, is_cell}
 use Rattle.tagged.specs.Fields.{Placed, unplaced, passed_bytes}
-use Rattle.declarations.specs.Parts.{first_name, name_in}
-use Rattle.declarations.specs.Declarations.{Declaration, name_of, declaration_read, declarations_at, declarations_in, declarations_step, after_declarations}
+use Rattle.tagged.specs.Parts.{first_name, name_in}
+use Rattle.tagged.specs.Declarations.{Declaration, name_of, declaration_read, declarations_at, declarations_in, declarations_step, after_declarations}
 use Rattle.tagged.specs.declared.answers.Rule.{Rule}
 use Rattle.tagged.specs.declared.answers.Answer.{Answer}
 use Rattle.tagged.specs.declared.answers.Answer.TheVariants as Answer
-use Rattle.declarations.specs.declared.parts.Part.{Part}
-use Rattle.netlist_lists.specs.Answer.{netlist_answer}
-use Rattle.netlist_lists.specs.Form.{cell_bytes}
+use Rattle.tagged.specs.declared.parts.Part.{Part}
+use Rattle.netlist.specs.Answer.{netlist_answer}
+use Rattle.netlist.specs.Form.{cell_bytes}
 use Rattle.tagged.proofs.ListLaws.{read-anywhere}
-use Rattle.netlist_lists.specs.Reading.{cell_read, cells_at, lists_in, netlist_in}
-use Rattle.netlist_lists.specs.Parts.{first_part, part_in, cell_part}
-use Rattle.netlist_lists.specs.declared.Cell.{Cell}
-use Rattle.netlist_lists.proofs.CellListed.{cell-listed}
+use Rattle.netlist.specs.Reading.{cell_read, cells_at, lists_in, netlist_in}
+use Rattle.netlist.specs.Parts.{first_part, part_in, cell_part}
+use Rattle.netlist.specs.declared.Cell.{Cell}
+use Rattle.netlist.proofs.CellListed.{cell-listed}
 use Rattle.verilog.specs.Reading.{tree_in, module_in}
 use Rattle.verilog.specs.Answer.{module_answer}
 use Rattle.verilog.specs.Parts.{name_part}

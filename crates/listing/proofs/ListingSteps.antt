@@ -9,12 +9,12 @@ use Rattle.tagged.specs.Limits.{longest_module, longest_netlist}
 use Rattle.tagged.specs.Files.{file_answer}
 use Rattle.tagged.specs.declared.answers.Rule.{Rule}
 use Rattle.tagged.specs.declared.answers.Answer.TheVariants as Answer
-use Rattle.declarations.specs.declared.parts.Part.{Part}
+use Rattle.tagged.specs.declared.parts.Part.{Part}
 use Rattle.tagged.proofs.FileLaws.{file-fits, accepted-parts}
-use Rattle.netlist_lists.specs.Form.{netlist_form}
-use Rattle.netlist_lists.specs.Reading.{netlist_in}
-use Rattle.netlist_lists.specs.Answer.{netlist_answer, lists_answer}
-use Rattle.netlist_lists.specs.Parts.{cell_part}
+use Rattle.netlist.specs.Form.{netlist_form}
+use Rattle.netlist.specs.Reading.{netlist_in}
+use Rattle.netlist.specs.Answer.{netlist_answer, lists_answer}
+use Rattle.netlist.specs.Parts.{cell_part}
 use Rattle.verilog.specs.Answer.{module_answer}
 use Rattle.verilog.specs.Parts.{name_part}
 use Rattle.verilog_check.proofs.AcceptedFile.{length-accepted}
@@ -47,7 +47,9 @@ module _ (file : List ℕ) where
 -- a netlist's file
 module _ (file : List ℕ) where
   pub netlist-short : netlist_answer file ≡ Answer.Accepted → length file ≤ 2 ^ 40
-  netlist-short accepted = omega (arith, (file-fits longest_netlist file (answer-parts file accepted).fits).short)
+  unfolding netlist_answer
+  netlist-short accepted =
+      omega (arith, (file-fits longest_netlist file (accepted-parts (file_answer longest_netlist file) (netlist_form file) (lists_answer 3 (netlist_in file)) accepted).1).short)
 
   module _ (number : ℕ) where
     pub netlist-accepted : netlist_answer file ≡ Answer.Accepted → {p r : Part} → p ≡ cell_part number file → r ≡ settled_part p → r ≡ netlist_part file number

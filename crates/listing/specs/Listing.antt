@@ -3,9 +3,9 @@
 use Rattle.std.specs.Prelude.{cond, List, ℕ, ◌-◌, eqb, take, drop}
 use Rattle.tagged.specs.declared.answers.Answer.{Answer}
 use Rattle.tagged.specs.declared.answers.Answer.TheVariants as Answer
-use Rattle.declarations.specs.declared.parts.Part.{Part}
-use Rattle.netlist_lists.specs.Answer.{netlist_answer}
-use Rattle.netlist_lists.specs.Parts.{cell_part}
+use Rattle.tagged.specs.declared.parts.Part.{Part}
+use Rattle.netlist.specs.Answer.{netlist_answer}
+use Rattle.netlist.specs.Parts.{cell_part}
 use Rattle.verilog.specs.Answer.{module_answer}
 use Rattle.verilog.specs.Parts.{name_part}
 use Rattle.listing.specs.declared.Listed.{Listed}

@@ -2,10 +2,10 @@
 ghost use Rattle.std.specs.Prelude.{◌≡◌};
 ghost use Rattle.listing.specs.Listing.{settled_part, module_part, netlist_part, listed_part, part_bytes, listed_bytes};
 
-use declarations::parts::Part;
-use netlist_lists::parts::cell_part;
+use netlist::parts::cell_part;
 use tagged::answers::Answer;
 use tagged::bytes::{from, front};
+use tagged::parts::Part;
 use verilog::parts::name_part;
 
 // Which file a part lies in, with its first byte and the byte past its last.

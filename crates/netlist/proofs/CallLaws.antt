@@ -5,14 +5,14 @@ use Prim.Native.Nat.{ℕ, ◌≤◌}
 use native.Mathlib.Omega.{arith}
 use lib.ListN.{length, drop}
 use Rattle.tagged.specs.Limits.{longest_netlist, most_variables}
-use Rattle.declarations.specs.Declarations.{declarations_in, width_of}
+use Rattle.tagged.specs.Declarations.{declarations_in, width_of}
 use Rattle.tagged.specs.declared.answers.Answer.TheVariants as Answer
 use Rattle.tagged.proofs.FileLaws.{file-fits}
-use Rattle.netlist_lists.specs.Reading.{netlist_in, lists_in}
-use Rattle.netlist_lists.specs.Answer.{netlist_answer}
-use Rattle.netlist_lists.specs.Run.{file_widths}
-use Rattle.netlist_lists.proofs.Accepted.{answer-parts}
-use Rattle.netlist_step.proofs.CycleWritten.{few-declared}
+use Rattle.netlist.specs.Reading.{netlist_in, lists_in}
+use Rattle.netlist.specs.Answer.{netlist_answer}
+use Rattle.netlist.specs.Run.{file_widths}
+use Rattle.netlist.proofs.Accepted.{answer-parts}
+use Rattle.netlist.proofs.CycleWritten.{few-declared}
 
 -- an accepted file is short
 pub accepted-long : (file : List ℕ) → netlist_answer file ≡ Answer.Accepted → length file ≤ longest_netlist

@@ -10,7 +10,7 @@ use types.Run.{OneOf, miss}
 use denote.Enum.Declared as enums
 use Rattle.tagged.specs.Sorts.{tag_of, is_cell, is_sort}
 use Rattle.tagged.specs.Fields.{then_by, fixed_then, ended}
-use Rattle.declarations.specs.Declarations.{declarations_step}
+use Rattle.tagged.specs.Declarations.{declarations_step}
 use Rattle.tagged.specs.declared.sorts.CellSort.{CellSort}
 use Rattle.tagged.specs.declared.sorts.CellSort.TheVariants as CellSort
 use Rattle.tagged.specs.declared.sorts.Sort.{Sort}
@@ -25,8 +25,8 @@ use Rattle.tagged.proofs.ByteLaws.{rest}
 use Rattle.tagged.proofs.SortLaws.{same-sort}
 use Rattle.tagged.proofs.TestLaws.{both, not-both}
 use Rattle.tagged.proofs.FieldLaws.{fixed-short, fixed_then_lem}
-use Rattle.netlist_lists.specs.Form.{Shape, an_operand, a_byte, shape_of, slots_by, cell_body, drive_body, cells_step, drives_judge, netlist_body}
-use Rattle.netlist_lists.proofs.CellBytes.{cell-sort}
+use Rattle.netlist.specs.Form.{Shape, an_operand, a_byte, shape_of, slots_by, cell_body, drive_body, cells_step, drives_judge, netlist_body}
+use Rattle.netlist.proofs.CellBytes.{cell-sort}
 
 -- slots that begin with an operand, as the code tests it
 module _ (shape s : List Shape) (begins : shape ≡ an_operand ∷ s) (base owner : ℕ) (l : List ℕ) (t : Bool) (tested : t ≡ leb (get_or l 0 0) 2 && leb 6 (length l)) where
@@ -71,6 +71,9 @@ operand-first CellSort.FixedBit = (a_byte ∷ [], refl)
 operand-first CellSort.ChosenBit = (an_operand ∷ [], refl)
 
 -- the variants of a sort but one, as a match counts them
+abbrev but_cell : List ℕ
+but_cell = 0 ∷ 1 ∷ 2 ∷ 3 ∷ 4 ∷ 5 ∷ 6 ∷ 8 ∷ 9 ∷ 10 ∷ []
+
 abbrev but_drive : List ℕ
 but_drive = 0 ∷ 1 ∷ 2 ∷ 3 ∷ 4 ∷ 5 ∷ 6 ∷ 7 ∷ 9 ∷ 10 ∷ []
 
@@ -80,6 +83,14 @@ but_netlist = 0 ∷ 1 ∷ 2 ∷ 3 ∷ 4 ∷ 5 ∷ 6 ∷ 7 ∷ 8 ∷ 10 ∷ []
 -- the variant of a sort, as a match counts it
 abbrev variant : Sort → ℕ
 variant s = enums.tag_of sorts.the_type s
+
+-- a match that found another sort than a cell
+pub not-cell : (s : Sort) → OneOf but_cell (variant s) → is_cell s ≡ false
+not-cell s k = go (is_cell s) refl
+  where
+    go : (t : Bool) → is_cell s ≡ t → t ≡ false
+    go true is = absurd (miss but_cell 7 tt (subst (λ (s : Sort). OneOf but_cell (variant s)) (cell-sort s is).1 k))
+    go false is = refl
 
 -- a sort that is not another one
 not-sort : (wanted s : Sort) → (s ≡ wanted → ⊥) → is_sort wanted s ≡ false

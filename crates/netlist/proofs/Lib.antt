@@ -1,4 +1,28 @@
--- The two calls on netlists.
+-- Laws and theorems of netlists: their bytes and lists give each other back, and a netlist without refusal is one whose bytes are accepted.
+pub mod EveryLaws
+pub mod CellBytes
+pub mod NetlistBytes
 pub mod FormLaws
+pub mod PutLaws
+pub mod NextLaws
+pub mod RuleLaws
+pub mod RuleAnswers
+pub mod RuleWalks
+pub mod PartLaws
+pub mod RuleParts
+pub mod RunWalks
+pub mod Accepted
+pub mod CellListed
+pub mod PassedRules
+pub mod RulesFit
+pub mod RegisterLaws
+pub mod NeverStops
+pub mod NumberLaws
+pub mod CycleWritten
 pub mod CallLaws
 pub mod OneResult
+pub mod BreakTests
+pub mod WholeTests
+pub mod RefusedExactly
+pub mod Stops
+pub mod Cases

@@ -6,8 +6,8 @@ use lib.ListN.{length}
 use Rattle.tagged.specs.Answers.{Promise}
 use Rattle.tagged.specs.declared.answers.Answer.{Answer}
 use Rattle.tagged.proofs.AnswerLaws.{one_answer_lem, coincide}
-use Rattle.netlist_lists.specs.Answer.{netlist_answer}
-use Rattle.netlist_lists.specs.Run.{run_answer, run_leaves}
+use Rattle.netlist.specs.Answer.{netlist_answer}
+use Rattle.netlist.specs.Run.{run_answer, run_leaves}
 
 pub read-once : (file : List ℕ) {a b : Answer} → a ≡ netlist_answer file → b ≡ netlist_answer file → a ≡ b
 read-once file p q = one_answer_lem p q

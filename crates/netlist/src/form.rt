@@ -2,10 +2,10 @@
 ghost use Rattle.std.specs.Prelude.{◌≡◌, ◌&&◌, [], ◌∷◌, ℕ, ◌+◌, ◌^◌, ◌≤◌, leb, length, get_or};
 ghost use Rattle.tagged.specs.Sorts.{sort_of, is_cell};
 ghost use Rattle.tagged.specs.Fields.{field_by, then_by};
-ghost use Rattle.netlist_lists.specs.Form.{an_operand, a_byte, shape_of, slots_by, cell_body, drive_body, cells_step, drives_judge, netlist_body, netlist_form};
+ghost use Rattle.netlist.specs.Form.{an_operand, a_byte, shape_of, slots_by, cell_body, drive_body, cells_step, drives_judge, netlist_body, netlist_form};
 
-use declarations::form::declarations;
 use tagged::bytes::{byte_at, from};
+use tagged::declarations::declarations;
 use tagged::fields::{Judged, Opened, Step, at_end, open_field, passed};
 use tagged::sorts::{CellSort, Sort, sort_of};
 

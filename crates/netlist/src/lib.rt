@@ -1,22 +1,58 @@
-// The two calls on netlists: what a file is refused for, and one cycle from a row into another.
+// Netlists: declarations, cells in order, and one drive for each register.
+pub mod cycle;
 pub mod form;
+pub mod parts;
+pub mod reading;
+pub mod rules;
+pub mod write;
 
 ghost use Rattle.std.specs.Prelude.{◌≡◌, length};
 ghost use Rattle.tagged.specs.Answers.{Promise};
-ghost use Rattle.netlist_lists.specs.Answer.{netlist_answer};
-ghost use Rattle.declarations.specs.Rows.{row_answer};
+ghost use Rattle.netlist.specs.Answer.{netlist_answer};
+ghost use Rattle.tagged.specs.Rows.{row_answer};
 ghost use Rattle.tagged.specs.declared.answers.Answer.TheVariants as Answer;
-ghost use Rattle.netlist_lists.specs.Run.{file_widths, run_answer, run_leaves};
+ghost use Rattle.netlist.specs.Run.{file_widths, run_answer, run_leaves};
 
+use crate::cycle::write_cycle;
 use crate::form::netlist_form;
-use declarations::rows::row_answer;
-use declarations::table::variable_table;
-use netlist_rules::lists_answer;
-use netlist_step::write_cycle;
+use crate::rules::lists_answer;
 use tagged::answers::{Answer, Rule};
 use tagged::bytes::from;
+use tagged::declarations::variable_table;
 use tagged::fields::Step;
 use tagged::files::netlist_file;
+use tagged::rows::row_answer;
+use words::{OneOperand, TwoOperand};
+
+// What a cell or a drive takes: its width, and a constant's value or the number of a variable or of a cell.
+#[derive(Drop)]
+pub enum Operand {
+    Constant(u8, u32),
+    Variable(u8, u32),
+    Cell(u8, u32),
+}
+
+// The eleven cells, 30 to 3A: the width first, then the operands in the order of the file.
+#[derive(Drop)]
+pub enum Cell {
+    One(OneOperand, u8, Operand),
+    Two(TwoOperand, u8, Operand, Operand),
+    // Condition, when 1, when 0.
+    Mux(u8, Operand, Operand, Operand),
+    // Vector, bit number, bit.
+    Put(u8, Operand, u8, Operand),
+    // Vector, bit number.
+    FixedBit(u8, Operand, u8),
+    // Vector, index.
+    ChosenBit(u8, Operand, Operand),
+}
+
+// The new value of a register.
+#[derive(Drop)]
+pub struct Drive {
+    pub variable: u8,
+    pub operand: Operand,
+}
 
 // The answer of a netlist's file: refusals 1 to 8 and 12.
 pub fn read(file: &[u8]) -> Answer

@@ -7,7 +7,7 @@ use lib.ListN.{length}
 use Rattle.tagged.specs.Answers.{reply_of, translation_reply, answer_of, translation_of, Promise}
 use Rattle.tagged.specs.declared.answers.Reply.{Reply}
 use Rattle.tagged.proofs.AnswerLaws.{answer_back, translation-back, one_answer_lem, coincide}
-use Rattle.netlist_lists.specs.Run as netlist-run
+use Rattle.netlist.specs.Run as netlist-run
 use Rattle.verilog.specs.Answer.{module_answer}
 use Rattle.verilog.specs.Run as module-run
 use Rattle.translate.specs.Answer.{translate_answer, translate_buffer}

@@ -1,7 +1,7 @@
 // What a placement tool in C calls: four functions over byte slices, each of which answers with a struct of numbers.
 ghost use Rattle.std.specs.Prelude.{◌≡◌, length};
 ghost use Rattle.tagged.specs.Answers.{reply_of, translation_reply, Promise};
-ghost use Rattle.netlist_lists.specs.Run as netlist-run;
+ghost use Rattle.netlist.specs.Run as netlist-run;
 ghost use Rattle.verilog.specs.Answer.{module_answer};
 ghost use Rattle.verilog.specs.Run as module-run;
 ghost use Rattle.translate.specs.Answer.{translate_answer, translate_buffer};

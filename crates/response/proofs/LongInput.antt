@@ -1,5 +1,5 @@
 -- Input that is longer than every module: its first 16,385 bytes have the answer of the whole, so the program need read no more. By rule 1.
-use mathlib.Core.Path.{◌≡◌, refl, ap, ◌∙◌}
+use mathlib.Core.Path.{◌≡◌, refl, ap}
 use mathlib.Core.Bool.{Bool, true, false, and-false}
 use mathlib.Core.List.{List}
 use Prim.Native.Nat.{ℕ, ◌<◌}
@@ -11,27 +11,15 @@ use borrow.Author.Tests.{leb-true, leb-false, lt-leb}
 use Rattle.tagged.specs.Limits.{longest_module}
 use Rattle.tagged.specs.Files.{file_answer}
 use Rattle.tagged.specs.declared.answers.Rule.TheVariants as Rule
-use Rattle.tagged.specs.declared.answers.Answer.{Answer}
-use Rattle.tagged.specs.declared.answers.Answer.TheVariants as Answer
 use Rattle.tagged.specs.declared.answers.Translation.TheVariants as Translation
-use Rattle.verilog.specs.Form.{module_form}
-use Rattle.verilog.specs.Reading.{module_in}
-use Rattle.verilog.specs.Answer.{tree_answer}
-use Rattle.translate.specs.Answer.{translated_bytes, cell_count, translate_answer}
-use Rattle.tagged.proofs.EarlierLaws.{after_answer}
-use Rattle.tagged.proofs.FileLaws.{after_form}
-use Rattle.verilog.proofs.FileAnswers.{module-answered}
-use Rattle.translate.proofs.TranslateAnswers.{after_check, translate-answered}
+use Rattle.verilog.specs.Answer.{module_answer}
+use Rattle.translate.specs.Answer.{translate_answer}
 use Rattle.response.specs.Text.{program_text}
 
 -- a file that is too long is refused 1, and so is what the program writes for it
 too_long_lem : (file : List ℕ) → longest_module < length file → (room : ℕ) → translate_answer file room ≡ Translation.Refused Rule.FileLength 0
-unfolding file_answer
-too_long_lem file h room =
-    let refused : file_answer longest_module file ≡ Answer.Refused Rule.FileLength 0 = rw (lt-leb (length file) longest_module h, and-false (leb 3 (length file))) in
-    translate-answered file room
-    ∙ ap (λ (a : Answer). after_check a (cell_count file) (length (translated_bytes file)) room)
-    (module-answered file ∙ ap (λ (a : Answer). after_answer a (after_form (module_form file) (tree_answer 3 (module_in file)))) refused)
+unfolding translate_answer module_answer file_answer
+too_long_lem file h room = rw (lt-leb (length file) longest_module h, and-false (leb 3 (length file)))
 
 -- THE LONGER INPUT
 pub first-bytes-decide : (file : List ℕ) → program_text (take 16385 file) ≡ program_text file

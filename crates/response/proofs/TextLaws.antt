@@ -9,8 +9,7 @@ use native.Mathlib.Omega.{arith}
 use lib.Dec.{ltb}
 use lib.ListN.{length, drop, length-append}
 use borrow.Author.Tests.{lt-ltb, le-ltb}
-use Rattle.tagged.specs.Order.{number_of}
-use Rattle.tagged.specs.Answers.{Promise}
+use Rattle.tagged.specs.Answers.{number_of, Promise}
 use Rattle.tagged.specs.Bytes.{Wrote}
 use Rattle.tagged.specs.Limits.{most_cells}
 use Rattle.tagged.specs.declared.answers.Rule.{Rule}
@@ -21,7 +20,7 @@ use Rattle.tagged.specs.declared.answers.Translation.{Translation}
 use Rattle.tagged.specs.declared.answers.Translation.TheVariants as Translation
 use Rattle.tagged.proofs.WriteLaws.{wrote_then, wrote_none, wrote-roomy}
 use Rattle.verilog.specs.Answer.{module_answer}
-use Rattle.translate.specs.Answer.{translated_bytes, cell_count, as_translation, translate_answer, buffer_after, translate_buffer, largest_netlist}
+use Rattle.translate.specs.Answer.{translated_bytes, cell_count, after_check, translate_answer, buffer_after, translate_buffer, largest_netlist}
 use Rattle.response.specs.Text.{decimal_by, decimal, refused_word, at_word, refusal_text, text_of, program_text, program_buffer}
 
 -- the digits of a number
@@ -69,13 +68,19 @@ refusal-written {o₁ = o₁} {o₂} {i₁ = i₁} {i₂} place e a b c d f =
 -- what the program answers
 
 -- a netlist that was written has its own length
-written_as : (answer : Answer) (size cells : ℕ) {written counted : ℕ} → as_translation answer size cells ≡ Translation.Written written counted → written ≡ size
-written_as (Answer.Refused rule place) size cells e = absurd (let z : ◌≡◌ {A = ℕ} 0 1 = cc in omega arith)
-written_as Answer.Accepted size cells e = cc
+after-tests : (answer : Answer) (cells size room : ℕ) {written counted : ℕ} → after_check answer cells size room ≡ Translation.Written written counted → written ≡ size
+after-tests (Answer.Refused rule place) cells size room e = absurd (let z : ◌≡◌ {A = ℕ} 0 1 = cc in omega arith)
+after-tests Answer.Accepted cells size room {written} {counted} e = go (ltb most_cells cells) (ltb room size) e
+  where
+    go : (many short : Bool) → cond many (Translation.Refused Rule.Cells 0) (cond short (Translation.Refused Rule.Buffer 0) (Translation.Written size cells)) ≡
+        Translation.Written written counted → written ≡ size
+    go true short p = absurd (let z : ◌≡◌ {A = ℕ} 0 1 = cc in omega arith)
+    go false true p = absurd (let z : ◌≡◌ {A = ℕ} 0 1 = cc in omega arith)
+    go false false p = cc
 
 written-size : (file : List ℕ) (room : ℕ) {size cells : ℕ} → translate_answer file room ≡ Translation.Written size cells → size ≡ length (translated_bytes file)
 unfolding translate_answer
-written-size file room e = written_as _ (length (translated_bytes file)) (cell_count file) e
+written-size file room e = after-tests (module_answer file) (cell_count file) (length (translated_bytes file)) room e
 
 abbrev pub Responds : List ℕ → List ℕ → ℕ → List ℕ → Type 0
 Responds file out size left = Promise (length (program_text file)) (program_buffer file out) size left

@@ -1,6 +1,6 @@
 -- A program reads a module from standard input and writes the netlist, or "refused N at P" in decimal and a newline.
 use Rattle.std.specs.Prelude.{cond, List, [], ◌∷◌, ◌++◌, ℕ, zero, suc, ◌+◌, ◌/◌, ◌%◌, ltb, length, drop}
-use Rattle.tagged.specs.Order.{number_of}
+use Rattle.tagged.specs.Answers.{number_of}
 use Rattle.tagged.specs.declared.answers.Translation.{Translation}
 use Rattle.tagged.specs.declared.answers.Translation.TheVariants as Translation
 use Rattle.translate.specs.Answer.{translated_bytes, translate_answer, largest_netlist}

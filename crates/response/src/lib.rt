@@ -1,12 +1,11 @@
 // What the program writes, on slices: a netlist, or the text of a refusal.
 ghost use Rattle.std.specs.Prelude.{◌≡◌, ◌+◌, ◌^◌, ◌≤◌, length};
-ghost use Rattle.tagged.specs.Order.{number_of};
-ghost use Rattle.tagged.specs.Answers.{Promise};
+ghost use Rattle.tagged.specs.Answers.{number_of, Promise};
 ghost use Rattle.tagged.specs.Bytes.{Wrote};
 ghost use Rattle.translate.specs.Answer.{largest_netlist};
 ghost use Rattle.response.specs.Text.{decimal_by, refusal_text, program_text, program_buffer};
 
-use netlist_lists::write::put_part;
+use netlist::write::put_part;
 use tagged::answers::{Rule, Translation};
 use tagged::bytes::put_byte;
 use translator::translate;

@@ -4,15 +4,31 @@ use mathlib.Core.List.{List}
 use Prim.Native.Nat.{ℕ}
 use mathlib.Core.Bool.{false}
 use lib.Dec.{eqb}
-use Rattle.tagged.specs.Order.{number_of}
-use Rattle.tagged.specs.Answers.{reply_of, translation_reply, answer_of, translation_of, Promise}
+use Rattle.tagged.specs.Answers.{number_of, reply_of, translation_reply, rule_of, answer_of, translation_of, Promise}
 use Rattle.tagged.specs.declared.answers.Rule.{Rule}
 use Rattle.tagged.specs.declared.answers.Rule.TheVariants as Rule
 use Rattle.tagged.specs.declared.answers.Answer.{Answer}
 use Rattle.tagged.specs.declared.answers.Answer.TheVariants as Answer
 use Rattle.tagged.specs.declared.answers.Translation.{Translation}
 use Rattle.tagged.specs.declared.answers.Translation.TheVariants as Translation
-use Rattle.tagged.proofs.OrderLaws.{rule-back}
+
+-- a rule is that of its number
+pub rule-back : (r : Rule) → rule_of (number_of r) ≡ r
+unfolding rule_of number_of
+rule-back Rule.FileLength = refl
+rule-back Rule.Form = refl
+rule-back Rule.Value = refl
+rule-back Rule.Name = refl
+rule-back Rule.Count = refl
+rule-back Rule.Reference = refl
+rule-back Rule.Widths = refl
+rule-back Rule.BitNumber = refl
+rule-back Rule.BothKinds = refl
+rule-back Rule.TwoProcesses = refl
+rule-back Rule.ReadElsewhere = refl
+rule-back Rule.Cells = refl
+rule-back Rule.Buffer = refl
+rule-back Rule.Row = refl
 
 -- no rule has the number of acceptance
 number-some : (r : Rule) → eqb (number_of r) 0 ≡ false

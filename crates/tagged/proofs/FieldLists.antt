@@ -13,7 +13,7 @@ use Rattle.tagged.proofs.ByteLaws.{rest}
 use Rattle.tagged.proofs.FieldLaws.{Whole, open-whole}
 use Rattle.tagged.proofs.ListLaws.{read-end, read_more}
 use Rattle.tagged.proofs.ListBytes.{field-whole, field-payload, field-after}
-use Rattle.tagged.proofs.Walks.{step, payload}
+use Rattle.tagged.proofs.DeclarationWalks.{step, payload}
 
 abbrev pub field_at : ℕ → Sort → List ℕ → Placed Field
 field_at place s p = record { place = place; what = record { sort = s; payload = p } }

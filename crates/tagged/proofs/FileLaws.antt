@@ -1,28 +1,23 @@
 -- What acceptance of a file says: of its length, and that its length, its form and its rules all are accepted. By cases on the answers.
 use mathlib.Core.Path.{◌≡◌, refl, sym, ap, ◌∙◌}
-use mathlib.Core.Bool.{Bool, true, false, cond, ◌&&◌, not}
+use mathlib.Core.Bool.{Bool, true, false, cond, ◌&&◌}
 use mathlib.Core.List.{List}
 use Prim.Native.Nat.{ℕ, ◌+◌, ◌≤◌}
 use native.Mathlib.Omega.{arith}
-use lib.Dec.{leb, ltb}
+use lib.Dec.{leb}
 use lib.ListN.{length}
 use borrow.Author.Tests.{eqb-true, leb-true, le-leb, eq-eqb}
 use Rattle.tagged.specs.Fields.{size_of, Body, field_by}
-use Rattle.tagged.specs.Files.{length_fits, outer_fits, outer_answer, file_answer, file_rules}
-use Rattle.tagged.specs.Order.{number_of, rank_in, rank_of}
-use Rattle.tagged.specs.Refusals.{for_rule, found_if, fault_of, or_else, refused_at, first_of, first_refusal}
+use Rattle.tagged.specs.Files.{outer_fits, outer_answer, file_answer}
+use Rattle.tagged.specs.Refusals.{after_form, after_answer}
 use Rattle.tagged.specs.declared.answers.Rule.{Rule}
 use Rattle.tagged.specs.declared.answers.Rule.TheVariants as Rule
 use Rattle.tagged.specs.declared.answers.Answer.{Answer}
 use Rattle.tagged.specs.declared.answers.Answer.TheVariants as Answer
-use Rattle.tagged.specs.declared.answers.Found.{Found}
-use Rattle.tagged.specs.declared.answers.Found.TheVariants as Found
 use Rattle.tagged.specs.declared.fields.Step.{Step}
 use Rattle.tagged.specs.declared.fields.Step.TheVariants as Step
 use Rattle.tagged.proofs.FieldLaws.{field-passed}
 use Rattle.tagged.proofs.RefusalLaws.{refused-not-accepted}
-use Rattle.tagged.proofs.OrderLaws.{unranked}
-use Rattle.tagged.proofs.EarlierLaws.{after_answer, refusal-later}
 
 -- a file to which refusal 1 does not apply: its length is allowed, and its outer length is the rest of it
 pub record FileFits (longest : ℕ) (file : List ℕ) : Type 0 where
@@ -44,37 +39,6 @@ file-fits longest file e = go (leb 3 (length file)) refl (leb (length file) long
 pub fits-file : (longest : ℕ) (file : List ℕ) → FileFits longest file → file_answer longest file ≡ Answer.Accepted
 unfolding file_answer outer_answer
 fits-file longest file f = rw (le-leb 3 (length file) f.header, le-leb (length file) longest f.short, eq-eqb (size_of file + 3) (length file) f.outer)
-
--- refusal 2 where the form has a fault, or else the other answer
-abbrev pub after_form : Step → Answer → Answer
-after_form (Step.Past m) other = other
-after_form (Step.Refused place) other = Answer.Refused Rule.Form place
-
--- a file is held against 1, then 2, and then against the rules of what it holds
-module _ (longest : ℕ) (form : Step) (file : List ℕ) where
-  first-rules : first_refusal (for_rule Found.Nowhere (file_rules longest form file)) ≡ after_answer (file_answer longest file) (after_form form Answer.Accepted)
-  unfolding first_of number_of file_answer outer_answer
-  first-rules = go (length_fits longest file) (outer_fits file) form
-    where
-      go : (s t : Bool) (f : Step) → refused_at Rule.FileLength (found_if (not (s && t)) 0) (refused_at Rule.Form (fault_of f) Answer.Accepted)
-          ≡ after_answer (cond s (cond t Answer.Accepted (Answer.Refused Rule.FileLength 0)) (Answer.Refused Rule.FileLength 0)) (after_form f Answer.Accepted)
-      go true true (Step.Past m) = refl
-      go true true (Step.Refused place) = refl
-      go true false f = refl
-      go false t f = refl
-
-  after-rules : (a other : Answer) (f : Step) → after_answer (after_answer a (after_form f Answer.Accepted)) other ≡ after_answer a (after_form f other)
-  after-rules Answer.Accepted other (Step.Past m) = refl
-  after-rules Answer.Accepted other (Step.Refused place) = refl
-  after-rules (Answer.Refused rule place) other f = refl
-
-  pub file-answered : (broken : Rule → Found) → ((k : Rule) → leb 2 (rank_of k) ≡ false → broken k ≡ Found.Nowhere) →
-      first_refusal (λ k. or_else (for_rule Found.Nowhere (file_rules longest form file) k) (broken k)) ≡ after_answer (file_answer longest file) (after_form form (first_refusal broken))
-  unfolding rank_of rank_in number_of
-  file-answered broken early =
-      refusal-later (for_rule Found.Nowhere (file_rules longest form file)) broken 2
-      (λ k h. unranked Found.Nowhere (λ n. ltb n 2) (file_rules longest form file) refl k h) early
-      ∙ ap (λ (a : Answer). after_answer a (first_refusal broken)) first-rules ∙ after-rules (file_answer longest file) (first_refusal broken) form
 
 -- accepted after a form is accepted, and without a fault, and accepted
 pub accepted-parts : (a : Answer) (s : Step) (other : Answer) → after_answer a (after_form s other) ≡ Answer.Accepted →

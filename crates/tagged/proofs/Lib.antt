@@ -1,5 +1,4 @@
 -- Laws of the tagged form, for this crate's proofs and for the crates above.
-pub mod OrderLaws
 pub mod AnswerLaws
 pub mod RangeLaws
 pub mod SortLaws
@@ -17,10 +16,22 @@ pub mod TestLaws
 pub mod RefusalLaws
 pub mod FileLaws
 pub mod FoundLaws
-pub mod EarlierLaws
+pub mod LowerLaws
 pub mod PlaceLaws
 pub mod PassLaws
 pub mod RiseLaws
-pub mod Walks
+pub mod NameLaws
+pub mod DeclarationLaws
+pub mod DeclarationBytes
+pub mod DeclarationSizes
+pub mod DeclarationTests
+pub mod DeclarationWalks
+pub mod DeclarationRules
 pub mod FieldLists
+pub mod PartLaws
+pub mod PlacedParts
+pub mod TableLaws
+pub mod RowLaws
+pub mod RunPromises
+pub mod CycleLaws
 pub mod Cases

@@ -1,5 +1,5 @@
 -- What the first place that breaks a rule, and the first rule that has a place, say of the elements and of the rules. By induction on the list.
-use mathlib.Core.Path.{◌≡◌, refl, sym, ap, ◌∙◌}
+use mathlib.Core.Path.{◌≡◌, refl, sym, ap}
 use mathlib.Core.Bool.{Bool, true, false, ◌&&◌, and-eq-true_iff}
 use mathlib.Core.List.{List, [], ◌∷◌, ◌++◌, append_assoc, append-nil, Memᴰ}
 use Prim.Native.Nat.{ℕ, suc, ◌≤◌, ◌<◌}
@@ -9,15 +9,14 @@ use lib.ListN.{length}
 use borrow.Author.Tests.{leb-true}
 use Rattle.tagged.specs.Choice.{choose}
 use Rattle.tagged.specs.Fields.{Placed}
-use Rattle.tagged.specs.Refusals.{For, for_rule, Test, never, first_broken, or_else, refused_at, first_of, first_refusal}
-use Rattle.tagged.specs.Order.{looked_for, rank_of, Before}
+use Rattle.tagged.specs.Refusals.{first_broken, or_else, refused_at, first_refusal, after_answer}
+use Rattle.tagged.specs.Answers.{number_of}
 use Rattle.tagged.specs.declared.answers.Rule.{Rule}
 use Rattle.tagged.specs.declared.answers.Answer.{Answer}
 use Rattle.tagged.specs.declared.answers.Answer.TheVariants as Answer
 use Rattle.tagged.specs.declared.answers.Found.{Found}
 use Rattle.tagged.specs.declared.answers.Found.TheVariants as Found
 use Rattle.tagged.specs.Stands.{Stands, first, next}
-use Rattle.tagged.proofs.OrderLaws.{every-rule, Rising, done, rise, in_order, rising-above, first-least, ranked, unranked}
 
 -- a place is not nowhere, and a refusal is not acceptance
 pub at-not-nowhere : {B : Type 0} {p : ℕ} → Found.At p ≡ Found.Nowhere → B
@@ -44,7 +43,7 @@ one_at (one e) = rw e
 one_at (other e f) = rw (e, f)
 
 -- the elements
-module _ {A : Type 0} (breaks : Test A) where
+module _ {A : Type 0} (breaks : List A → A → Bool) where
   -- by what stands at the front
   pub front-passes : (earlier : List A) (x : Placed A) (l : List (Placed A)) → first_broken breaks earlier (x ∷ l) ≡ Found.Nowhere →
       (breaks earlier x.what ≡ false) × (first_broken breaks (earlier ++ (x.what ∷ [])) l ≡ Found.Nowhere)
@@ -126,6 +125,30 @@ module _ {A : Type 0} (breaks : Test A) where
       rw here (first-at (earlier ++ (y.what ∷ [])) s (rw append_assoc e)
       (λ b q z t less. rw append_assoc (others (y.what ∷ b) q z (next t) (omega arith))))
 
+-- rules in rising order of their numbers, the first not below `from`
+pub data Rising : ℕ → List Rule → Type 0 where
+  done : {from : ℕ} → Rising from []
+  rise : {from : ℕ} {r : Rule} {rules : List Rule} → from ≤ number_of r → Rising (suc (number_of r)) rules → Rising from (r ∷ rules)
+
+-- the same by a test
+abbrev pub in_order : ℕ → List Rule → Bool
+in_order from [] = true
+in_order from (r ∷ rules) = leb from (number_of r) && in_order (suc (number_of r)) rules
+
+pub order-rising : (from : ℕ) (rules : List Rule) → in_order from rules ≡ true → Rising from rules
+order-rising from [] e = done
+order-rising from (r ∷ rules) e =
+    let h = (and-eq-true_iff (leb from (number_of r)) (in_order (suc (number_of r)) rules)).0 e in
+    rise (leb-true from (number_of r) h.0) (order-rising (suc (number_of r)) rules h.1)
+
+pub rising-above : {from : ℕ} {rules : List Rule} {k : Rule} → Rising from rules → Memᴰ k rules → from ≤ number_of k
+rising-above (rise l r) (Memᴰ.head e) = rw e l
+rising-above (rise l r) (Memᴰ.tail m) = omega (arith, rising-above r m)
+
+first-least : {r j : Rule} {rules : List Rule} → Rising (suc (number_of r)) rules → Memᴰ j (r ∷ rules) → number_of r ≤ number_of j
+first-least r (Memᴰ.head e) = omega (arith, ap number_of e)
+first-least r (Memᴰ.tail m) = omega (arith, rising-above r m)
+
 -- the rules: acceptance where none has a place, else the first that has one
 module _ (broken : Rule → Found) where
   -- every rule of the list is broken nowhere
@@ -138,36 +161,36 @@ module _ (broken : Rule → Found) where
     here : {r : Rule} {rules : List Rule} → k ≡ r → broken k ≡ Found.At p → FirstRule k p (r ∷ rules)
     later : {r : Rule} {rules : List Rule} → broken r ≡ Found.Nowhere → FirstRule k p rules → FirstRule k p (r ∷ rules)
 
-  pub accepted-none : (rules : List Rule) → first_of broken rules ≡ Answer.Accepted → NoneBroken rules
-  unfolding first_of
+  pub accepted-none : (rules : List Rule) → first_refusal broken rules ≡ Answer.Accepted → NoneBroken rules
+  unfolding first_refusal
   accepted-none [] e = none
   accepted-none (r ∷ rules) e = go (broken r) refl e (accepted-none rules)
     where
-      go : (f : Found) → broken r ≡ f → refused_at r f (first_of broken rules) ≡ Answer.Accepted →
-          (first_of broken rules ≡ Answer.Accepted → NoneBroken rules) → NoneBroken (r ∷ rules)
+      go : (f : Found) → broken r ≡ f → refused_at r f (first_refusal broken rules) ≡ Answer.Accepted →
+          (first_refusal broken rules ≡ Answer.Accepted → NoneBroken rules) → NoneBroken (r ∷ rules)
       go (Found.At p) h e ih = refused-not-accepted e
       go Found.Nowhere h e ih = more h (ih e)
 
-  pub none-accepted : {rules : List Rule} → NoneBroken rules → first_of broken rules ≡ Answer.Accepted
-  unfolding first_of
+  pub none-accepted : {rules : List Rule} → NoneBroken rules → first_refusal broken rules ≡ Answer.Accepted
+  unfolding first_refusal
   none-accepted none = refl
   none-accepted (more h u) = rw h (none-accepted u)
 
-  pub refused-first : (rules : List Rule) {k : Rule} {p : ℕ} → first_of broken rules ≡ Answer.Refused k p → FirstRule k p rules
-  unfolding first_of
+  pub refused-first : (rules : List Rule) {k : Rule} {p : ℕ} → first_refusal broken rules ≡ Answer.Refused k p → FirstRule k p rules
+  unfolding first_refusal
   refused-first [] e = refused-not-accepted (sym e)
   refused-first (r ∷ rules) {k} {p} e = go (broken r) refl e (refused-first rules)
     where
-      go : (f : Found) → broken r ≡ f → refused_at r f (first_of broken rules) ≡ Answer.Refused k p →
-          (first_of broken rules ≡ Answer.Refused k p → FirstRule k p rules) → FirstRule k p (r ∷ rules)
+      go : (f : Found) → broken r ≡ f → refused_at r f (first_refusal broken rules) ≡ Answer.Refused k p →
+          (first_refusal broken rules ≡ Answer.Refused k p → FirstRule k p rules) → FirstRule k p (r ∷ rules)
       go (Found.At q) h e ih =
           let same : k ≡ r = cc in
           let place : q ≡ p = cc in
           here same (rw (same, h, place))
       go Found.Nowhere h e ih = later h (ih e)
 
-  pub first-refused : {k : Rule} {p : ℕ} {rules : List Rule} → FirstRule k p rules → first_of broken rules ≡ Answer.Refused k p
-  unfolding first_of
+  pub first-refused : {k : Rule} {p : ℕ} {rules : List Rule} → FirstRule k p rules → first_refusal broken rules ≡ Answer.Refused k p
+  unfolding first_refusal
   first-refused (here same h) = rw (← same, h)
   first-refused (later h f) = rw h (first-refused f)
 
@@ -180,15 +203,15 @@ module _ (broken : Rule → Found) where
   each_none [] h = none
   each_none (r ∷ rules) h = more (h r (Memᴰ.head refl)) (each_none rules (λ k m. h k (Memᴰ.tail m)))
 
-  -- the same by the rules' ranks, where the list has them in their order
+  -- the same by the rules' numbers, where the list has them in rising order
   pub first-lower : {k : Rule} {p from : ℕ} {rules : List Rule} → Rising from rules → FirstRule k p rules →
-      (j : Rule) → Memᴰ j rules → rank_of j < rank_of k → broken j ≡ Found.Nowhere
-  first-lower (rise l r) (here same h) j m less = absurd (omega (arith, ap rank_of same, first-least r m))
+      (j : Rule) → Memᴰ j rules → number_of j < number_of k → broken j ≡ Found.Nowhere
+  first-lower (rise l r) (here same h) j m less = absurd (omega (arith, ap number_of same, first-least r m))
   first-lower (rise l r) (later h f) j (Memᴰ.head e) less = rw e h
   first-lower (rise l r) (later h f) j (Memᴰ.tail m) less = first-lower r f j m less
 
   pub lower-first : {k : Rule} {p from : ℕ} {rules : List Rule} → Rising from rules → Memᴰ k rules → broken k ≡ Found.At p →
-      ((j : Rule) → Memᴰ j rules → rank_of j < rank_of k → broken j ≡ Found.Nowhere) → FirstRule k p rules
+      ((j : Rule) → Memᴰ j rules → number_of j < number_of k → broken j ≡ Found.Nowhere) → FirstRule k p rules
   lower-first (rise l r) (Memᴰ.head e) h n = here e h
   lower-first {rules = q ∷ rules} (rise l r) (Memᴰ.tail m) h n =
       later (n q (Memᴰ.head refl) (rising-above r m)) (lower-first r m h (λ j i less. n j (Memᴰ.tail i) less))
@@ -203,48 +226,23 @@ pub data Agrees (a b : Rule → Found) : List Rule → Type 0 where
   agree-none : Agrees a b []
   agree-more : {rule : Rule} {l : List Rule} → a rule ≡ b rule → (a rule ≡ Found.Nowhere → Agrees a b l) → Agrees a b (rule ∷ l)
 
-pub same-refusal : {a b : Rule → Found} {rules : List Rule} → Agrees a b rules → first_of a rules ≡ first_of b rules
-unfolding first_of
+pub same-refusal : {a b : Rule → Found} {rules : List Rule} → Agrees a b rules → first_refusal a rules ≡ first_refusal b rules
+unfolding first_refusal
 same-refusal agree-none = refl
 same-refusal {a} {b} (agree-more {rule} {l} same others) = go (a rule) refl (λ e. same-refusal (others e))
   where
-    go : (found : Found) → a rule ≡ found → (a rule ≡ Found.Nowhere → first_of a l ≡ first_of b l) →
-        refused_at rule (a rule) (first_of a l) ≡ refused_at rule (b rule) (first_of b l)
+    go : (found : Found) → a rule ≡ found → (a rule ≡ Found.Nowhere → first_refusal a l ≡ first_refusal b l) →
+        refused_at rule (a rule) (first_refusal a l) ≡ refused_at rule (b rule) (first_refusal b l)
     go (Found.At place) e rest = rw (← same, e)
     go Found.Nowhere e rest = rw (← same, e) (rest e)
 
-pub agree-all : {a b : Rule → Found} → ((rule : Rule) → a rule ≡ b rule) → (rules : List Rule) → Agrees a b rules
-agree-all same [] = agree-none
-agree-all same (rule ∷ rules) = agree-more (same rule) (λ e. agree-all same rules)
-
--- so where they agree on all rules from a rank on
-pub agree-from : {a b : Rule → Found} (r : ℕ) → ((k : Rule) → r ≤ rank_of k → a k ≡ b k) → {rules : List Rule} → Rising r rules → Agrees a b rules
-agree-from r same done = agree-none
-agree-from r same (rise {r = k} low rising) = agree-more (same k low) (λ e. agree-from (suc (rank_of k)) (λ j above. same j (omega (arith, low, above))) rising)
-
--- the same of all rules, in the order in which they are looked for
-module _ (broken : Rule → Found) where
-  pub accepted-each : first_refusal broken ≡ Answer.Accepted → (k : Rule) → broken k ≡ Found.Nowhere
-  accepted-each e k = none_each broken (accepted-none broken looked_for e) k (every-rule k)
-
-  pub each-accepted : ((k : Rule) → broken k ≡ Found.Nowhere) → first_refusal broken ≡ Answer.Accepted
-  each-accepted h = none-accepted broken (each_none broken looked_for (λ k m. h k))
-
-  -- refused: the rule has the place, and none that is looked for before it has any
-  pub refused-place : {k : Rule} {p : ℕ} → first_refusal broken ≡ Answer.Refused k p → broken k ≡ Found.At p
-  refused-place e = first-broken broken (refused-first broken looked_for e)
-
-  pub refused-before : {k : Rule} {p : ℕ} → first_refusal broken ≡ Answer.Refused k p → (j : Rule) → Before j k → broken j ≡ Found.Nowhere
-  refused-before e j less = first-lower broken in_order (refused-first broken looked_for e) j (every-rule j) less
-
-  pub place-refused : {k : Rule} {p : ℕ} → broken k ≡ Found.At p → ((j : Rule) → Before j k → broken j ≡ Found.Nowhere) → first_refusal broken ≡ Answer.Refused k p
-  place-refused {k} h n = first-refused broken (lower-first broken in_order (every-rule k) h (λ j m less. n j less))
-
--- a rule that cannot be broken has no place
-pub never-broken : {A : Type 0} (earlier : List A) (l : List (Placed A)) → first_broken never earlier l ≡ Found.Nowhere
-never-broken earlier l = passes-nowhere never earlier l (λ before p x s. refl)
-
--- so for a rule that a list of tests has not
-pub unranked-nowhere : {A : Type 0} (test : ℕ → Bool) (tests : List (For (Test A))) → ranked test tests ≡ true → (k : Rule) → test (rank_of k) ≡ false →
-    (earlier : List A) (l : List (Placed A)) → first_broken (for_rule never tests k) earlier l ≡ Found.Nowhere
-unranked-nowhere {A} test tests e k h earlier l = ap (λ (t : Test A). first_broken t earlier l) (unranked never test tests e k h) ∙ never-broken earlier l
+-- rules in two lists, one after the other
+pub refusal-append : (broken : Rule → Found) (a b : List Rule) → first_refusal broken (a ++ b) ≡ after_answer (first_refusal broken a) (first_refusal broken b)
+unfolding first_refusal
+refusal-append broken [] b = refl
+refusal-append broken (rule ∷ a) b = go (broken rule) (refusal-append broken a b)
+  where
+    go : (found : Found) → first_refusal broken (a ++ b) ≡ after_answer (first_refusal broken a) (first_refusal broken b) →
+        refused_at rule found (first_refusal broken (a ++ b)) ≡ after_answer (refused_at rule found (first_refusal broken a)) (first_refusal broken b)
+    go (Found.At place) rest = refl
+    go Found.Nowhere rest = rest

@@ -1,6 +1,5 @@
--- Answers: the numbers of the documents for each case, and the values in which C gets them.
+-- Answers: the numbers of document 01 for each case, and the values in which C gets them.
 use Rattle.std.specs.Prelude.{ℕ, cond, List, ◌≡◌, eqb}
-use Rattle.tagged.specs.Order.{number_of, looked_for, rule_in}
 use Rattle.tagged.specs.declared.answers.Rule.{Rule}
 use Rattle.tagged.specs.declared.answers.Rule.TheVariants as Rule
 use Rattle.tagged.specs.declared.answers.Answer.{Answer}
@@ -8,6 +7,23 @@ use Rattle.tagged.specs.declared.answers.Answer.TheVariants as Answer
 use Rattle.tagged.specs.declared.answers.Translation.{Translation}
 use Rattle.tagged.specs.declared.answers.Translation.TheVariants as Translation
 use Rattle.tagged.specs.declared.answers.Reply.{Reply}
+
+-- the table of refusals: the number of each, in the order in which they are looked for
+unfoldable pub number_of : Rule → ℕ
+number_of Rule.FileLength = 1
+number_of Rule.Form = 2
+number_of Rule.Value = 3
+number_of Rule.Name = 4
+number_of Rule.Count = 5
+number_of Rule.Reference = 6
+number_of Rule.Widths = 7
+number_of Rule.BitNumber = 8
+number_of Rule.BothKinds = 9
+number_of Rule.TwoProcesses = 10
+number_of Rule.ReadElsewhere = 11
+number_of Rule.Cells = 12
+number_of Rule.Buffer = 13
+number_of Rule.Row = 14
 
 -- acceptance is number 0; a refusal has its number and place
 unfoldable pub reply_of : Answer → Reply
@@ -20,8 +36,21 @@ translation_reply (Translation.Written length cells) = record { number = 0; cell
 translation_reply (Translation.Refused rule place) = record { number = number_of rule; cells = 0; at = place }
 
 -- and back: the rule with a number, the answer and the translation that a reply stands for
-abbrev pub rule_of : ℕ → Rule
-rule_of n = rule_in looked_for n Rule.FileLength
+unfoldable pub rule_of : ℕ → Rule
+rule_of n =
+    cond (eqb n 1) Rule.FileLength
+    (cond (eqb n 2) Rule.Form
+    (cond (eqb n 3) Rule.Value
+    (cond (eqb n 4) Rule.Name
+    (cond (eqb n 5) Rule.Count
+    (cond (eqb n 6) Rule.Reference
+    (cond (eqb n 7) Rule.Widths
+    (cond (eqb n 8) Rule.BitNumber
+    (cond (eqb n 9) Rule.BothKinds
+    (cond (eqb n 10) Rule.TwoProcesses
+    (cond (eqb n 11) Rule.ReadElsewhere
+    (cond (eqb n 12) Rule.Cells
+    (cond (eqb n 13) Rule.Buffer Rule.Row))))))))))))
 
 unfoldable pub answer_of : Reply → Answer
 answer_of r = cond (eqb r.number 0) Answer.Accepted (Answer.Refused (rule_of r.number) r.at)

@@ -1,17 +1,9 @@
 -- The limits of document 01, once.
-use Rattle.std.specs.Prelude.{ℕ, ◌-◌}
+use Rattle.std.specs.Prelude.{ℕ}
 
 -- the outer field has depth 1, the deepest allowed is 32
 abbrev pub deepest : ℕ
 deepest = 32
-
--- the levels that are left to a process, itself counted, below the outer field
-abbrev pub process_levels : ℕ
-process_levels = deepest - 1
-
--- and to the statements of a process
-abbrev pub statement_levels : ℕ
-statement_levels = deepest - 2
 
 -- refusal 12: over 1,024 cells
 abbrev pub most_cells : ℕ

@@ -1,10 +1,9 @@
 // Answers: acceptance, or one refusal by its rule and place; and the struct in which C gets them.
 ghost use Rattle.std.specs.Prelude.{◌≡◌};
-ghost use Rattle.tagged.specs.Order.{number_of, rank_of};
-ghost use Rattle.tagged.specs.Answers.{reply_of, translation_reply};
-ghost use Rattle.tagged.specs.Refusals.{earlier_refusal};
+ghost use Rattle.tagged.specs.Answers.{number_of, reply_of, translation_reply};
+ghost use Rattle.tagged.specs.Refusals.{lower_refusal};
 
-// What a refusal is given for, in the order of their numbers.
+// What a refusal is given for, in the order in which document 01 looks for them.
 #[derive(Drop)]
 pub enum Rule {
     FileLength,
@@ -77,42 +76,20 @@ impl Rule {
             Rule::Row => 14,
         }
     }
-
-    // How many rules are looked for before this one.
-    pub fn rank(self) -> u32
-        ensures { result ≡ rank_of self }
-    {
-        match self {
-            Rule::FileLength => 0,
-            Rule::Form => 1,
-            Rule::Value => 2,
-            Rule::Name => 3,
-            Rule::Count => 4,
-            Rule::Reference => 5,
-            Rule::Widths => 6,
-            Rule::BitNumber => 7,
-            Rule::BothKinds => 8,
-            Rule::TwoProcesses => 9,
-            Rule::ReadElsewhere => 10,
-            Rule::Cells => 11,
-            Rule::Buffer => 12,
-            Rule::Row => 13,
-        }
-    }
 }
 
 impl Answer {
-    // Of this answer and another the refusal that is looked for before the other; of two by the same rule this one.
-    pub fn or_earlier(self, other: Answer) -> Answer
-        ensures { result ≡ earlier_refusal self other }
+    // Of this answer and another the refusal with the lower number; of two with the same number this one.
+    pub fn or_lower(self, other: Answer) -> Answer
+        ensures { result ≡ lower_refusal self other }
     {
         match self {
             Answer::Accepted => other,
             Answer::Refused(rule, place) => match other {
                 Answer::Accepted => Answer::Refused(rule, place),
-                Answer::Refused(second, elsewhere) => {
-                    if second.rank() < rule.rank() {
-                        Answer::Refused(second, elsewhere)
+                Answer::Refused(lower, elsewhere) => {
+                    if lower.number() < rule.number() {
+                        Answer::Refused(lower, elsewhere)
                     } else {
                         Answer::Refused(rule, place)
                     }

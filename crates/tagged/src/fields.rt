@@ -1,5 +1,5 @@
 // Fields over parts of the file: opening a header, passing a field, and what is left at the end.
-ghost use Rattle.std.specs.Prelude.{◌≡◌, ◌+◌, ◌^◌, ◌≤◌, length, take, drop};
+ghost use Rattle.std.specs.Prelude.{◌≡◌};
 ghost use Rattle.tagged.specs.Fields.{open_of, passing, ended};
 
 use crate::bytes::number_of_two;
@@ -67,12 +67,4 @@ pub fn at_end(part: &[u8], base: usize, owner: usize) -> Judged
     } else {
         Judged::Refused(owner)
     }
-}
-
-// The payload, of so many bytes, of the field at an index of a list.
-pub fn payload_at(list: &[u8], at: usize, size: usize) -> &[u8]
-    requires { (at + 3 + size ≤ length list.now) × (length list.now ≤ 2 ^ 40) }
-    ensures { result.now ≡ take size (drop (at + 3) list.now) }
-{
-    &list[at + 3..at + 3 + size]
 }

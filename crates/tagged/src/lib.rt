@@ -1,7 +1,11 @@
 // The tagged form: limits, answers, sorts of fields, numbers in bytes, fields, declarations, rows, and parts of a file.
 pub mod answers;
 pub mod bytes;
+pub mod declarations;
 pub mod fields;
 pub mod files;
 pub mod limits;
+pub mod names;
+pub mod parts;
+pub mod rows;
 pub mod sorts;

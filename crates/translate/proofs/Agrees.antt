@@ -7,10 +7,10 @@ use Prim.Native.Nat.{ℕ}
 use lib.ListN.{length, length-map}
 use borrow.Author.Tests.{eq-eqb}
 use Rattle.words.specs.Values.{got}
-use Rattle.declarations.specs.Declarations.{Declaration, width_of}
-use Rattle.declarations.specs.Rows.{all_fit}
-use Rattle.declarations.proofs.RowLaws.{fits-length}
-use Rattle.netlist_lists.specs.Cycle.{netlist_cycle}
+use Rattle.tagged.specs.Declarations.{Declaration, width_of}
+use Rattle.tagged.specs.Rows.{all_fit}
+use Rattle.tagged.proofs.RowLaws.{fits-length}
+use Rattle.netlist.specs.Cycle.{netlist_cycle}
 use Rattle.verilog.specs.Tree.{Module}
 use Rattle.verilog.specs.Cycle.{State, execute_all, delays_any, settled, module_cycle}
 use Rattle.verilog.proofs.Typed.{TypedModule}

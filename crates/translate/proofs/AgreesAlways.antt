@@ -5,15 +5,15 @@ use mathlib.Core.Bool.{true}
 use mathlib.Core.List.{List, [], ◌∷◌, map, Memᴰ}
 use Prim.Native.Nat.{ℕ}
 use Rattle.words.specs.Values.{got}
-use Rattle.declarations.specs.Declarations.{Declaration, width_of}
-use Rattle.declarations.specs.Rows.{all_fit}
-use Rattle.declarations.specs.Cycles.{with_inputs, inputs_fit, cycles_by}
-use Rattle.netlist_lists.specs.Cycle.{netlist_cycle}
+use Rattle.tagged.specs.Declarations.{Declaration, width_of}
+use Rattle.tagged.specs.Rows.{all_fit}
+use Rattle.tagged.specs.Cycles.{with_inputs, inputs_fit, cycles_by}
+use Rattle.netlist.specs.Cycle.{netlist_cycle}
 use Rattle.verilog.specs.Tree.{Module}
 use Rattle.verilog.specs.Cycle.{module_cycle}
 use Rattle.verilog.proofs.Typed.{TypedModule}
 use Rattle.translate.specs.Translation.{netlist_of}
-use Rattle.declarations.proofs.CycleLaws.{with-inputs-fits}
+use Rattle.tagged.proofs.CycleLaws.{with-inputs-fits}
 use Rattle.translate.proofs.Agrees.{Agree, agrees}
 
 -- with these input rows, the module and its netlist both go on through every cycle, and give the same rows

@@ -9,15 +9,14 @@ use Rattle.words.specs.Operators.{one_width, two_width}
 use Rattle.words.specs.declared.OneOperand.{OneOperand}
 use Rattle.words.specs.declared.TwoOperand.{TwoOperand}
 use Rattle.words.proofs.WidthLaws.{one_width_lem, two-width}
-use Rattle.declarations.specs.Declarations.{Declaration}
+use Rattle.tagged.specs.Declarations.{Declaration}
 use Rattle.tagged.specs.declared.answers.Rule.TheVariants as Rule
-use Rattle.netlist_lists.specs.Lists.{operand_width}
-use Rattle.netlist_lists.specs.Rules.{cell_unlike, cell_outside, cell_breaks, cell_tests}
-use Rattle.netlist_lists.specs.declared.Operand.{Operand}
-use Rattle.netlist_lists.specs.declared.Cell.{Cell}
-use Rattle.netlist_lists.specs.declared.Cell.TheVariants as Cell
+use Rattle.netlist.specs.Lists.{operand_width}
+use Rattle.netlist.specs.Rules.{cell_unlike, cell_outside, cell_breaks}
+use Rattle.netlist.specs.declared.Operand.{Operand}
+use Rattle.netlist.specs.declared.Cell.{Cell}
+use Rattle.netlist.specs.declared.Cell.TheVariants as Cell
 use Rattle.translate.proofs.Operands.{GoodOperand}
-use Rattle.tagged.specs.Order.{number_of}
 
 module _ (ds : List Declaration) where
   -- a cell that may stand after these
@@ -32,7 +31,7 @@ module _ (ds : List Declaration) where
     own-width = rw x.wide x.width
 
     pub one_passes : (op : OneOperand) → CellPasses earlier (Cell.One op (one_width op (operand_width a)) a)
-    unfolding cell_tests number_of cell_unlike cell_outside
+    unfolding cell_breaks cell_unlike cell_outside
     one_passes op = record {
       value = rw (one_width_lem op (operand_width a) own-width, x.value);
       reference = rw x.there;
@@ -41,12 +40,12 @@ module _ (ds : List Declaration) where
     }
 
     pub fixed-passes : (k : ℕ) → k < w → CellPasses earlier (Cell.FixedBit 1 a k)
-    unfolding cell_tests number_of cell_unlike cell_outside
+    unfolding cell_breaks cell_unlike cell_outside
     fixed-passes k h = record { value = rw x.value; reference = rw x.there; widths = rw x.like; bit = lt-leb (operand_width a) k (rw x.wide h) }
 
     module _ {b : Operand} {u : ℕ} (y : GoodOperand ds earlier b u) where
       pub chosen-passes : index_within u w ≡ true → CellPasses earlier (Cell.ChosenBit 1 a b)
-      unfolding cell_tests number_of cell_unlike cell_outside
+      unfolding cell_breaks cell_unlike cell_outside
       chosen-passes h = record {
         value = rw (x.value, y.value);
         reference = rw (x.there, y.there);
@@ -55,7 +54,7 @@ module _ (ds : List Declaration) where
       }
 
       pub two-passes : (op : TwoOperand) → w ≡ u → CellPasses earlier (Cell.Two op (two_width op (operand_width a)) a b)
-      unfolding cell_tests number_of cell_unlike cell_outside
+      unfolding cell_breaks cell_unlike cell_outside
       two-passes op e = record {
         value = rw (two-width op (operand_width a) own-width, x.value, y.value);
         reference = rw (x.there, y.there);
@@ -70,7 +69,7 @@ module _ (ds : List Declaration) where
       }
 
       pub put-passes : (k : ℕ) → k < w → u ≡ 1 → CellPasses earlier (Cell.Put (operand_width a) a k b)
-      unfolding cell_tests number_of cell_unlike cell_outside
+      unfolding cell_breaks cell_unlike cell_outside
       put-passes k h e = record {
         value = rw (own-width, x.value, y.value);
         reference = rw (x.there, y.there);
@@ -79,7 +78,7 @@ module _ (ds : List Declaration) where
       }
 
       pub mux-passes : {c : Operand} → GoodOperand ds earlier c 1 → w ≡ u → CellPasses earlier (Cell.Mux (operand_width a) c a b)
-      unfolding cell_tests number_of cell_unlike cell_outside
+      unfolding cell_breaks cell_unlike cell_outside
       mux-passes {c} z e = record {
         value = rw (own-width, z.value, x.value, y.value);
         reference = rw (z.there, x.there, y.there);

@@ -8,22 +8,22 @@ use Prim.Native.Nat.{ℕ, ◌≤◌}
 use lib.ListN.{length}
 use Rattle.words.specs.Values.{got}
 use Rattle.tagged.specs.Limits.{most_cells}
-use Rattle.declarations.specs.Declarations.{Declaration, width_of}
-use Rattle.declarations.specs.Rows.{all_fit}
-use Rattle.declarations.specs.Cycles.{inputs_fit, cycles_by}
+use Rattle.tagged.specs.Declarations.{Declaration, width_of}
+use Rattle.tagged.specs.Rows.{all_fit}
+use Rattle.tagged.specs.Cycles.{inputs_fit, cycles_by}
 use Rattle.tagged.specs.declared.answers.Answer.TheVariants as Answer
-use Rattle.netlist_lists.specs.Answer.{netlist_answer}
-use Rattle.netlist_lists.specs.Reading.{netlist_in}
-use Rattle.netlist_lists.specs.Cycle.{netlist_cycle}
-use Rattle.netlist_lists.proofs.NetlistBytes.{read-written}
-use Rattle.netlist_lists.proofs.Accepted.{accepted-bytes}
-use Rattle.netlist_lists.proofs.RulesFit.{lists-accepted}
+use Rattle.netlist.specs.Answer.{netlist_answer}
+use Rattle.netlist.specs.Reading.{netlist_in}
+use Rattle.netlist.specs.Cycle.{netlist_cycle}
+use Rattle.netlist.proofs.NetlistBytes.{read-written}
+use Rattle.netlist.proofs.Accepted.{accepted-bytes}
+use Rattle.netlist.proofs.RulesFit.{lists-accepted}
 use Rattle.verilog.specs.Reading.{module_in}
 use Rattle.verilog.specs.Answer.{module_answer}
 use Rattle.verilog.specs.Cycle.{module_cycle}
 use Rattle.verilog.specs.Quiet.{quiet_cycles}
 use Rattle.verilog.proofs.Typed.{TypedModule}
-use Rattle.netlist_lists.specs.Fits.{WithoutRefusal}
+use Rattle.netlist.specs.Fits.{WithoutRefusal}
 use Rattle.verilog.proofs.AcceptedTyped.{accepted-typed}
 use Rattle.verilog.proofs.NeverStops.{typed-cycles-run, typed-cycles-quiet}
 use Rattle.translate.specs.Answer.{netlist_of_file, translated_bytes, cell_count}

@@ -9,12 +9,12 @@ use lib.ListN.{length, length-append}
 use lib.Seq.{append_snoc, set_at}
 use borrow.Author.Tests.{lt-ltb, eq-eqb}
 use Rattle.words.specs.Values.{Value, got}
-use Rattle.declarations.specs.Declarations.{Declaration, width_of, is_register, variable_width, register_at}
-use Rattle.declarations.specs.Rows.{all_fit}
-use Rattle.netlist_lists.specs.Cycle.{operand_value, driven}
-use Rattle.netlist_lists.specs.Rules.{registers_from}
-use Rattle.netlist_lists.specs.declared.Operand.{Operand}
-use Rattle.netlist_lists.specs.declared.Operand.TheVariants as Operand
+use Rattle.tagged.specs.Declarations.{Declaration, width_of, is_register, variable_width, register_at}
+use Rattle.tagged.specs.Rows.{all_fit}
+use Rattle.netlist.specs.Cycle.{operand_value, driven}
+use Rattle.netlist.specs.Rules.{registers_from}
+use Rattle.netlist.specs.declared.Operand.{Operand}
+use Rattle.netlist.specs.declared.Operand.TheVariants as Operand
 use Rattle.verilog.specs.Tree.{Module}
 use Rattle.verilog.specs.Cycle.{delays_any, settled}
 use Rattle.translate.specs.Tables.{Tables, operand_at}

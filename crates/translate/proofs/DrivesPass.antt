@@ -9,13 +9,13 @@ use lib.Dec.{eqb, leb}
 use lib.ListN.{length, get_or, length-append}
 use lib.Seq.{get_or_at}
 use borrow.Author.Tests.{lt-leb}
-use Rattle.declarations.specs.Declarations.{Declaration, is_register, variable_width}
+use Rattle.tagged.specs.Declarations.{Declaration, is_register, variable_width}
 use Rattle.tagged.specs.declared.answers.Rule.TheVariants as Rule
-use Rattle.netlist_lists.specs.Lists.{operand_width}
-use Rattle.netlist_lists.specs.Rules.{registers_from, not_next, drive_breaks, drive_tests}
-use Rattle.netlist_lists.specs.declared.Operand.{Operand}
-use Rattle.netlist_lists.specs.declared.Cell.{Cell}
-use Rattle.netlist_lists.specs.declared.Drive.{Drive}
+use Rattle.netlist.specs.Lists.{operand_width}
+use Rattle.netlist.specs.Rules.{registers_from, not_next, drive_breaks}
+use Rattle.netlist.specs.declared.Operand.{Operand}
+use Rattle.netlist.specs.declared.Cell.{Cell}
+use Rattle.netlist.specs.declared.Drive.{Drive}
 use Rattle.verilog.specs.Tree.{Module}
 use Rattle.verilog.specs.Cycle.{delays_any}
 use Rattle.translate.specs.Tables.{Tables, operand_at}
@@ -24,7 +24,6 @@ use Rattle.tagged.proofs.PassLaws.{EachAfter, none_after, more-after}
 use Rattle.translate.proofs.Operands.{GoodOperand, equal-not}
 use Rattle.translate.proofs.ExpressionCells.{held-good}
 use Rattle.translate.proofs.MergeCells.{GoodTables}
-use Rattle.tagged.specs.Order.{number_of}
 
 -- numbers of variables that there are
 pub data AllThere (ds : List Declaration) : List ℕ → Type 0 where
@@ -52,7 +51,7 @@ module _ (ds : List Declaration) (cells : List Cell) where
   -- `front` are the registers that the earlier drives name, `l` those that come after this one
   drive-passes : (front l : List ℕ) (v : ℕ) (earlier : List Drive) {o : Operand} → front ++ (v ∷ l) ≡ registers_from 0 ds → length front ≡ length earlier →
       GoodOperand ds cells o (variable_width ds v) → DrivePasses earlier (record { variable = v; operand = o })
-  unfolding drive_tests number_of not_next
+  unfolding drive_breaks not_next
   drive-passes front l v earlier {o} e n g =
       let left : leb (length (front ++ (v ∷ l))) (length earlier) ≡ false = lt-leb (length (front ++ (v ∷ l))) (length earlier) (rw length-append (omega arith)) in
       let next : not (eqb v (get_or (front ++ (v ∷ l)) (length earlier) 0)) ≡ false =

@@ -8,11 +8,11 @@ use lib.ListN.{length, length-append, length-map}
 use Rattle.words.specs.Widths.{is_width}
 use Rattle.words.specs.Operators.{one_width, two_width}
 use Rattle.words.proofs.WidthLaws.{one_width_lem, two-width}
-use Rattle.declarations.specs.Declarations.{Declaration, width_of, variable_width}
-use Rattle.netlist_lists.specs.Lists.{operand_width, cell_width}
-use Rattle.netlist_lists.specs.declared.Operand.{Operand}
-use Rattle.netlist_lists.specs.declared.Cell.{Cell}
-use Rattle.netlist_lists.specs.declared.Cell.TheVariants as Cell
+use Rattle.tagged.specs.Declarations.{Declaration, width_of, variable_width}
+use Rattle.netlist.specs.Lists.{operand_width, cell_width}
+use Rattle.netlist.specs.declared.Operand.{Operand}
+use Rattle.netlist.specs.declared.Cell.{Cell}
+use Rattle.netlist.specs.declared.Cell.TheVariants as Cell
 use Rattle.verilog.specs.Tree.{Expression}
 use Rattle.verilog.specs.Rules.{expression_width}
 use Rattle.verilog.proofs.Typed.{Typed, constant-fits, variable-there, bit-inside, index-inside, one_typed, two_typed}

@@ -17,11 +17,11 @@ use Rattle.words.specs.declared.TwoOperand.{TwoOperand}
 use Rattle.words.specs.Values.{Value, Outcome, got}
 use Rattle.words.proofs.BitLaws.{bit-lt}
 use Rattle.words.proofs.WidthLaws.{one-lt, two-lt}
-use Rattle.declarations.specs.Declarations.{Declaration, variable_width}
-use Rattle.netlist_lists.specs.Cycle.{operand_value, cell_value}
-use Rattle.netlist_lists.specs.declared.Operand.{Operand}
-use Rattle.netlist_lists.specs.declared.Cell.{Cell}
-use Rattle.netlist_lists.specs.declared.Cell.TheVariants as Cell
+use Rattle.tagged.specs.Declarations.{Declaration, variable_width}
+use Rattle.netlist.specs.Cycle.{operand_value, cell_value}
+use Rattle.netlist.specs.declared.Operand.{Operand}
+use Rattle.netlist.specs.declared.Cell.{Cell}
+use Rattle.netlist.specs.declared.Cell.TheVariants as Cell
 use Rattle.verilog.specs.Tree.{Expression, constant, variable, fixed_bit, chosen_bit, one, two}
 use Rattle.verilog.specs.Rules.{expression_width}
 use Rattle.verilog.specs.Cycle.{evaluate}

@@ -6,19 +6,19 @@ use native.Mathlib.Omega.{arith}
 use lib.ListN.{length}
 use Rattle.tagged.specs.Limits.{most_cells, most_variables}
 use Rattle.tagged.specs.Sorts.{tag_of}
-use Rattle.declarations.specs.Declarations.{declaration_broken}
+use Rattle.tagged.specs.Declarations.{declaration_broken}
 use Rattle.tagged.specs.declared.sorts.Sort.TheVariants as Sort
 use Rattle.tagged.specs.declared.answers.Rule.TheVariants as Rule
 use Rattle.tagged.specs.declared.answers.Found.TheVariants as Found
 use Rattle.tagged.proofs.ListBytes.{field-length}
-use Rattle.netlist_lists.specs.Lists.{Netlist}
-use Rattle.netlist_lists.specs.Form.{netlist_payload, netlist_bytes}
-use Rattle.netlist_lists.specs.Rules.{registers_from}
+use Rattle.netlist.specs.Lists.{Netlist}
+use Rattle.netlist.specs.Form.{netlist_payload, netlist_bytes}
+use Rattle.netlist.specs.Rules.{registers_from}
 use Rattle.verilog.specs.Tree.{Module}
 use Rattle.translate.specs.Translation.{translated_module, netlist_of}
 use Rattle.translate.specs.Answer.{largest_netlist}
-use Rattle.declarations.proofs.DeclarationSizes.{variables-few, declarations-length}
-use Rattle.netlist_lists.proofs.RulesFit.{payload-few, registers-count}
+use Rattle.tagged.proofs.DeclarationSizes.{variables-few, declarations-length}
+use Rattle.netlist.proofs.RulesFit.{payload-few, registers-count}
 use Rattle.translate.proofs.DrivesPass.{drives-length}
 
 pub largest : (m : Module) (base : ℕ) → declaration_broken Rule.Name base m.declarations ≡ Found.Nowhere →

@@ -8,7 +8,6 @@ pub mod StatementCells
 pub mod DrivesPass
 pub mod NetlistAccepted
 pub mod Largest
-pub mod TranslateAnswers
 pub mod Room
 pub mod Values
 pub mod Tracks

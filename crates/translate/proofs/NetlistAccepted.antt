@@ -1,4 +1,4 @@
--- The netlist of a typed module whose declarations break no rule is accepted, if it has at most 1,024 cells: no rule has a place.
+-- The netlist of a typed module whose declarations break no rule is accepted, if it has at most 1,024 cells: every rule that is looked for has no place.
 use mathlib.Core.Path.{◌≡◌, refl}
 use mathlib.Core.Bool.{false}
 use mathlib.Core.List.{List, []}
@@ -8,36 +8,33 @@ use lib.ListN.{length}
 use borrow.Author.Tests.{le-ltb}
 use Rattle.tagged.specs.Limits.{most_cells}
 use Rattle.tagged.specs.Fields.{placed_by}
-use Rattle.declarations.specs.Declarations.{Declaration, declaration_bytes, declaration_breaks, declaration_broken, declaration_tests}
+use Rattle.tagged.specs.Declarations.{Declaration, declaration_bytes, declaration_breaks, declaration_broken}
 use Rattle.tagged.specs.declared.answers.Rule.{Rule}
 use Rattle.tagged.specs.declared.answers.Rule.TheVariants as Rule
 use Rattle.tagged.specs.declared.answers.Answer.{Answer}
 use Rattle.tagged.specs.declared.answers.Answer.TheVariants as Answer
 use Rattle.tagged.specs.declared.answers.Found.{Found}
 use Rattle.tagged.specs.declared.answers.Found.TheVariants as Found
-use Rattle.netlist_lists.specs.Lists.{Netlist}
-use Rattle.netlist_lists.specs.Form.{cell_bytes, drive_bytes}
-use Rattle.netlist_lists.specs.Rules.{cell_breaks, drive_breaks, registers_from, whole_broken, cells_base, drives_base, cell_tests, drive_tests, whole_rules}
-use Rattle.netlist_lists.specs.Answer.{lists_answer}
-use Rattle.netlist_lists.specs.declared.Cell.{Cell}
-use Rattle.netlist_lists.specs.declared.Drive.{Drive}
+use Rattle.netlist.specs.Lists.{Netlist}
+use Rattle.netlist.specs.Form.{cell_bytes, drive_bytes}
+use Rattle.netlist.specs.Rules.{cell_breaks, drive_breaks, registers_from, whole_broken, cells_base, drives_base}
+use Rattle.netlist.specs.Answer.{lists_answer}
+use Rattle.netlist.specs.declared.Cell.{Cell}
+use Rattle.netlist.specs.declared.Drive.{Drive}
 use Rattle.verilog.specs.Tree.{Module}
 use Rattle.verilog.proofs.Typed.{TypedModule}
 use Rattle.verilog.specs.Reading.{module_in}
 use Rattle.verilog.specs.Answer.{module_answer}
 use Rattle.translate.specs.Answer.{cell_count, netlist_of_file}
 use Rattle.translate.specs.Translation.{translated_module, netlist_of}
-use Rattle.netlist_lists.proofs.PassedRules.{cell_broken, drive_broken, RulesPass, rules-accepted}
+use Rattle.netlist.proofs.PassedRules.{cell_broken, drive_broken, RulesPass, rules-accepted}
 use Rattle.tagged.proofs.PassLaws.{EachAfter, each-nowhere}
-use Rattle.tagged.specs.Refusals.{never, first_broken}
-use Rattle.tagged.proofs.OrderLaws.{no_more, and-for, for-each}
-use Rattle.tagged.proofs.RefusalLaws.{never-broken}
+use Rattle.tagged.proofs.RefusalLaws.{passes-nowhere}
 use Rattle.verilog.proofs.DeclarationsKept.{DeclarationsPass}
 use Rattle.verilog.proofs.AcceptedModule.{accepted-declarations}
 use Rattle.translate.proofs.CellsPass.{CellPasses}
 use Rattle.translate.proofs.StatementCells.{translated-good}
 use Rattle.translate.proofs.DrivesPass.{DrivePasses, drives-pass, drives-length}
-use Rattle.tagged.specs.Order.{number_of}
 
 -- a netlist whose cells and drives pass, each after those before it
 pub record NetlistPasses (n : Netlist) : Type 0 where
@@ -47,7 +44,7 @@ pub record NetlistPasses (n : Netlist) : Type 0 where
   pub few : length n.cells ≤ most_cells
 
 module _ (base : ℕ) (n : Netlist) (d : DeclarationsPass base n.declarations) (p : NetlistPasses n) where
-  -- a rule that each cell passes; and so for drives
+  -- a rule that each cell passes, or that no cell breaks; and so for drives and declarations
   cells-nowhere : (rule : Rule) → ((earlier : List Cell) (c : Cell) → CellPasses n.declarations earlier c → cell_breaks rule n.declarations earlier c ≡ false) →
       cell_broken rule base n ≡ Found.Nowhere
   cells-nowhere rule h = each-nowhere (cell_breaks rule n.declarations) cell_bytes h (cells_base base n) p.cells
@@ -57,21 +54,56 @@ module _ (base : ℕ) (n : Netlist) (d : DeclarationsPass base n.declarations) (
       drive_broken rule base n ≡ Found.Nowhere
   drives-nowhere rule h = each-nowhere (drive_breaks rule n.declarations n.cells) drive_bytes h (drives_base base n) p.drives
 
-  -- so no rule has a place
+  declarations-nowhere : (rule : Rule) → ((earlier : List Declaration) (c : Declaration) → declaration_breaks rule earlier c ≡ false) →
+      declaration_broken rule base n.declarations ≡ Found.Nowhere
+  declarations-nowhere rule h = passes-nowhere (declaration_breaks rule) [] (placed_by declaration_bytes base n.declarations) (λ before p c s. h before c)
+
+  -- so every rule that is looked for passes
   rules-pass : RulesPass base n
-  unfolding whole_rules number_of declaration_tests cell_tests drive_tests
+  unfolding whole_broken declaration_breaks cell_breaks drive_breaks
   rules-pass = record {
-    declarations = λ rule. for-each (λ k test. first_broken test [] (placed_by declaration_bytes base n.declarations) ≡ Found.Nowhere) never
-        (and-for d.value (and-for d.name (and-for d.count no_more))) rule (λ other. never-broken [] _);
-    cells = λ rule. for-each (λ k test. first_broken test [] (placed_by cell_bytes (cells_base base n) n.cells) ≡ Found.Nowhere) never
-        (and-for (cells-nowhere Rule.Value (λ e c h. h.value)) (and-for (cells-nowhere Rule.Reference (λ e c h. h.reference))
-        (and-for (cells-nowhere Rule.Widths (λ e c h. h.widths)) (and-for (cells-nowhere Rule.BitNumber (λ e c h. h.bit)) no_more)))) rule (λ other. never-broken [] _);
-    drives = λ rule. for-each (λ k test. first_broken test [] (placed_by drive_bytes (drives_base base n) n.drives) ≡ Found.Nowhere) never
-        (and-for (drives-nowhere Rule.Value (λ e c h. h.value)) (and-for (drives-nowhere Rule.Reference (λ e c h. h.reference))
-        (and-for (drives-nowhere Rule.Widths (λ e c h. h.widths)) no_more))) rule (λ other. never-broken [] _);
-    whole = λ rule. for-each (λ k found. found ≡ Found.Nowhere) Found.Nowhere
-        (and-for (rw (le-ltb (length n.drives) (length (registers_from 0 n.declarations)) (omega (arith, p.driven))))
-        (and-for (rw (le-ltb most_cells (length n.cells) p.few)) no_more)) rule (λ other. refl);
+    value = record {
+      declarations = d.value;
+      cells = cells-nowhere Rule.Value (λ e c h. h.value);
+      drives = drives-nowhere Rule.Value (λ e c h. h.value);
+      whole = refl;
+    };
+    name = record {
+      declarations = d.name;
+      cells = cells-nowhere Rule.Name (λ e c h. refl);
+      drives = drives-nowhere Rule.Name (λ e c h. refl);
+      whole = refl;
+    };
+    count = record {
+      declarations = d.count;
+      cells = cells-nowhere Rule.Count (λ e c h. refl);
+      drives = drives-nowhere Rule.Count (λ e c h. refl);
+      whole = refl;
+    };
+    reference = record {
+      declarations = declarations-nowhere Rule.Reference (λ e c. refl);
+      cells = cells-nowhere Rule.Reference (λ e c h. h.reference);
+      drives = drives-nowhere Rule.Reference (λ e c h. h.reference);
+      whole = rw (le-ltb (length n.drives) (length (registers_from 0 n.declarations)) (omega (arith, p.driven)));
+    };
+    widths = record {
+      declarations = declarations-nowhere Rule.Widths (λ e c. refl);
+      cells = cells-nowhere Rule.Widths (λ e c h. h.widths);
+      drives = drives-nowhere Rule.Widths (λ e c h. h.widths);
+      whole = refl;
+    };
+    bits = record {
+      declarations = declarations-nowhere Rule.BitNumber (λ e c. refl);
+      cells = cells-nowhere Rule.BitNumber (λ e c h. h.bit);
+      drives = drives-nowhere Rule.BitNumber (λ e c h. refl);
+      whole = refl;
+    };
+    cells = record {
+      declarations = declarations-nowhere Rule.Cells (λ e c. refl);
+      cells = cells-nowhere Rule.Cells (λ e c h. refl);
+      drives = drives-nowhere Rule.Cells (λ e c h. refl);
+      whole = rw (le-ltb most_cells (length n.cells) p.few);
+    };
   }
 
   pub passes-accepted : lists_answer base n ≡ Answer.Accepted

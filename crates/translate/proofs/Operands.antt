@@ -9,12 +9,12 @@ use lib.ListN.{length, get_or, set, length-append, length-map, get_or-append}
 use lib.Seq.{get_or_at}
 use borrow.Author.Tests.{eq-eqb, leb-false, lt-leb}
 use Rattle.words.specs.Widths.{is_width, fits_width}
-use Rattle.declarations.specs.Declarations.{Declaration, width_of, variable_width}
-use Rattle.netlist_lists.specs.Lists.{operand_width, cell_width}
-use Rattle.netlist_lists.specs.Rules.{operand_value_broken, operand_missing, operand_unlike}
-use Rattle.netlist_lists.specs.declared.Operand.{Operand}
-use Rattle.netlist_lists.specs.declared.Operand.TheVariants as Operand
-use Rattle.netlist_lists.specs.declared.Cell.{Cell}
+use Rattle.tagged.specs.Declarations.{Declaration, width_of, variable_width}
+use Rattle.netlist.specs.Lists.{operand_width, cell_width}
+use Rattle.netlist.specs.Rules.{operand_value_broken, operand_missing, operand_unlike}
+use Rattle.netlist.specs.declared.Operand.{Operand}
+use Rattle.netlist.specs.declared.Operand.TheVariants as Operand
+use Rattle.netlist.specs.declared.Cell.{Cell}
 use Rattle.verilog.proofs.Typed.{WidthsFit, no-widths, more-widths}
 use Rattle.translate.specs.Tables.{themselves, operand_at}
 

@@ -1,33 +1,86 @@
 -- A buffer of 25,219 bytes is never too short: no file is refused by rule 13 then. The module's own check never gives it, and what it accepts is small enough.
-use mathlib.Core.Path.{◌≡◌, refl, sym, ◌∙◌}
-use mathlib.Core.Bool.{Bool, true, false}
-use mathlib.Core.List.{List}
+use mathlib.Core.Path.{◌≡◌, refl, ap, ◌∙◌}
+use mathlib.Core.Bool.{Bool, true, false, cond}
+use mathlib.Core.List.{List, [], ◌∷◌}
 use Prim.Native.Nat.{ℕ, ◌≤◌, ◌<◌}
 use native.Mathlib.Omega.{arith}
 use lib.Dec.{ltb}
 use lib.ListN.{length}
 use borrow.Author.Tests.{ltb-true, ltb-false}
-use Rattle.tagged.specs.Limits.{most_cells}
-use Rattle.tagged.specs.Order.{number_of, rank_in, rank_of}
-use Rattle.tagged.specs.Refusals.{found_if, refused_at, first_of}
+use Rattle.tagged.specs.Limits.{most_cells, longest_module}
+use Rattle.tagged.specs.Answers.{number_of}
+use Rattle.tagged.specs.Files.{length_fits, outer_fits, outer_answer, file_answer}
+use Rattle.tagged.specs.Refusals.{refused_at, first_refusal, after_form, after_answer}
+use Rattle.tagged.specs.declared.answers.Rule.{Rule}
 use Rattle.tagged.specs.declared.answers.Rule.TheVariants as Rule
 use Rattle.tagged.specs.declared.answers.Answer.{Answer}
 use Rattle.tagged.specs.declared.answers.Answer.TheVariants as Answer
 use Rattle.tagged.specs.declared.answers.Translation.{Translation}
 use Rattle.tagged.specs.declared.answers.Translation.TheVariants as Translation
-use Rattle.tagged.proofs.RefusalLaws.{at-not-nowhere, refused-place}
+use Rattle.tagged.specs.declared.answers.Found.{Found}
+use Rattle.tagged.specs.declared.answers.Found.TheVariants as Found
+use Rattle.tagged.specs.declared.fields.Step.{Step}
+use Rattle.tagged.specs.declared.fields.Step.TheVariants as Step
+use Rattle.verilog.specs.Form.{module_form}
 use Rattle.verilog.specs.Reading.{module_in}
-use Rattle.verilog.specs.Answer.{module_file_broken, module_answer}
-use Rattle.verilog.proofs.FileAnswers.{module-late}
+use Rattle.verilog.specs.Rules.{module_broken}
+use Rattle.verilog.specs.Answer.{module_rules, tree_answer, module_answer}
+use Rattle.translate.specs.Answer.{translated_bytes, cell_count, after_check, translate_answer, largest_netlist}
 use Rattle.verilog.proofs.AcceptedModule.{accepted-declarations}
-use Rattle.translate.specs.Answer.{translated_bytes, cell_count, as_translation, translate_answer, largest_netlist}
-use Rattle.translate.proofs.TranslateAnswers.{after_check, translate-answered}
 use Rattle.translate.proofs.Largest.{largest}
 
--- the check never answers 13
-module-not : (file : List ℕ) (place : ℕ) → module_answer file ≡ Answer.Refused Rule.Buffer place → ⊥
-unfolding module_answer rank_of rank_in number_of
-module-not file place e = at-not-nowhere (sym (refused-place (module_file_broken file) e) ∙ module-late file Rule.Buffer refl)
+-- an answer that is not refusal 13
+abbrev NotBuffer : Answer → Type 0
+NotBuffer a = (place : ℕ) → a ≡ Answer.Refused Rule.Buffer place → ⊥
+
+-- a list of rules below rule 13
+data BelowBuffer : List Rule → Type 0 where
+  no-rules : BelowBuffer []
+  more-rules : {rule : Rule} {l : List Rule} → ltb (number_of rule) (number_of Rule.Buffer) ≡ true → BelowBuffer l → BelowBuffer (rule ∷ l)
+
+module-rules : BelowBuffer module_rules
+unfolding number_of
+module-rules =
+    more-rules refl (more-rules refl (more-rules refl (more-rules refl (more-rules refl (more-rules refl
+    (more-rules refl (more-rules refl (more-rules refl no-rules))))))))
+
+refusal-not : (broken : Rule → Found) (l : List Rule) → BelowBuffer l → NotBuffer (first_refusal broken l)
+unfolding first_refusal
+refusal-not broken [] no-rules place e = let z : ◌≡◌ {A = ℕ} 0 1 = cc in omega arith
+refusal-not broken (rule ∷ l) (more-rules h r) place e = go (broken rule) (refusal-not broken l r place) e
+  where
+    go : (f : Found) → (first_refusal broken l ≡ Answer.Refused Rule.Buffer place → ⊥) →
+        refused_at rule f (first_refusal broken l) ≡ Answer.Refused Rule.Buffer place → ⊥
+    go (Found.At x) k p =
+        let same : rule ≡ Rule.Buffer = cc in
+        let less : number_of rule < number_of Rule.Buffer = ltb-true (number_of rule) (number_of Rule.Buffer) h in
+        let equal : number_of rule ≡ number_of Rule.Buffer = ap number_of same in
+        omega arith
+    go Found.Nowhere k p = k p
+
+file-not : (longest : ℕ) (file : List ℕ) → NotBuffer (file_answer longest file)
+unfolding file_answer outer_answer
+file-not longest file place e = go (length_fits longest file) (outer_fits file) e
+  where
+    go : (s t : Bool) → cond s (cond t Answer.Accepted (Answer.Refused Rule.FileLength 0)) (Answer.Refused Rule.FileLength 0) ≡ Answer.Refused Rule.Buffer place → ⊥
+    go true true p = let z : ◌≡◌ {A = ℕ} 0 1 = cc in omega arith
+    go true false p = let z : ◌≡◌ {A = ℕ} 0 1 = cc in omega arith
+    go false true p = let z : ◌≡◌ {A = ℕ} 0 1 = cc in omega arith
+    go false false p = let z : ◌≡◌ {A = ℕ} 0 1 = cc in omega arith
+
+form-not : (s : Step) (other : Answer) → NotBuffer other → NotBuffer (after_form s other)
+form-not (Step.Past n) other h place e = h place e
+form-not (Step.Refused x) other h place e = let z : ◌≡◌ {A = ℕ} 0 1 = cc in omega arith
+
+answer-not : (a other : Answer) → NotBuffer a → NotBuffer other → NotBuffer (after_answer a other)
+answer-not Answer.Accepted other g h = h
+answer-not (Answer.Refused rule x) other g h = g
+
+module-not : (file : List ℕ) → NotBuffer (module_answer file)
+unfolding module_answer tree_answer
+module-not file =
+    answer-not (file_answer longest_module file) (after_form (module_form file) (tree_answer 3 (module_in file))) (file-not longest_module file)
+    (form-not (module_form file) (tree_answer 3 (module_in file)) (refusal-not (module_broken 3 (module_in file)) module_rules module-rules))
 
 -- an accepted module within 1,024 cells has a netlist of at most so many bytes
 pub accepted-small : (file : List ℕ) → module_answer file ≡ Answer.Accepted → cell_count file ≤ most_cells → length (translated_bytes file) ≤ largest_netlist
@@ -37,14 +90,14 @@ accepted-small file e few =
 
 -- so refusal 13 is never the answer where there is room for the largest
 pub room-enough : (file : List ℕ) (room : ℕ) → largest_netlist ≤ room → (place : ℕ) → translate_answer file room ≡ Translation.Refused Rule.Buffer place → ⊥
-unfolding first_of number_of
-room-enough file room h place e = go (module_answer file) refl (sym (translate-answered file room) ∙ e)
+unfolding translate_answer
+room-enough file room h place e = go (module_answer file) refl e
   where
     size : ℕ
     size = length (translated_bytes file)
 
     few : (t : Bool) → ltb most_cells (cell_count file) ≡ t → (s : Bool) → ltb room size ≡ s → (module_answer file ≡ Answer.Accepted) →
-        as_translation (refused_at Rule.Cells (found_if t 0) (refused_at Rule.Buffer (found_if s 0) Answer.Accepted)) size (cell_count file) ≡
+        cond t (Translation.Refused Rule.Cells 0) (cond s (Translation.Refused Rule.Buffer 0) (Translation.Written size (cell_count file))) ≡
         Translation.Refused Rule.Buffer place → ⊥
     few true c s r a p = let z : ◌≡◌ {A = ℕ} 0 1 = cc in omega arith
     few false c true r a p =

@@ -10,12 +10,12 @@ use lib.ListN.{length, get_or, length-append, get_or-append}
 use lib.Seq.{get_or_at}
 use borrow.Author.Tests.{ltb-true, lt-ltb, eq-eqb}
 use Rattle.words.specs.Values.{Value, Outcome, stopped, got, ◌>>=◌, provided}
-use Rattle.declarations.specs.Declarations.{Declaration}
-use Rattle.netlist_lists.specs.Lists.{operand_width}
-use Rattle.netlist_lists.specs.Cycle.{stated_width, operand_value, cell_value, cell_values}
-use Rattle.netlist_lists.specs.declared.Operand.{Operand}
-use Rattle.netlist_lists.specs.declared.Operand.TheVariants as Operand
-use Rattle.netlist_lists.specs.declared.Cell.{Cell}
+use Rattle.tagged.specs.Declarations.{Declaration}
+use Rattle.netlist.specs.Lists.{operand_width}
+use Rattle.netlist.specs.Cycle.{stated_width, operand_value, cell_value, cell_values}
+use Rattle.netlist.specs.declared.Operand.{Operand}
+use Rattle.netlist.specs.declared.Operand.TheVariants as Operand
+use Rattle.netlist.specs.declared.Cell.{Cell}
 
 pub stopped-not : {A B : Type 0} {a : A} → stopped ≡ got a → B
 stopped-not e = absurd (let z : ◌≡◌ {A = ℕ} 0 1 = cc in omega arith)

@@ -1,18 +1,15 @@
 -- Translating uses refusals 1 to 13; on acceptance it returns length and cell count, and writes that many bytes.
-use Rattle.std.specs.Prelude.{List, [], ◌∷◌, ◌++◌, ℕ, ltb, length, drop}
+use Rattle.std.specs.Prelude.{cond, List, ◌++◌, ℕ, ltb, length, drop}
 use Rattle.tagged.specs.Limits.{most_cells}
-use Rattle.tagged.specs.Refusals.{For, ◌by◌, for_rule, found_if, or_else, first_refusal}
 use Rattle.tagged.specs.declared.answers.Rule.TheVariants as Rule
-use Rattle.tagged.specs.declared.answers.Found.{Found}
-use Rattle.tagged.specs.declared.answers.Found.TheVariants as Found
 use Rattle.tagged.specs.declared.answers.Answer.{Answer}
 use Rattle.tagged.specs.declared.answers.Answer.TheVariants as Answer
 use Rattle.tagged.specs.declared.answers.Translation.{Translation}
 use Rattle.tagged.specs.declared.answers.Translation.TheVariants as Translation
-use Rattle.netlist_lists.specs.Lists.{Netlist}
-use Rattle.netlist_lists.specs.Form.{netlist_bytes}
+use Rattle.netlist.specs.Lists.{Netlist}
+use Rattle.netlist.specs.Form.{netlist_bytes}
 use Rattle.verilog.specs.Reading.{module_in}
-use Rattle.verilog.specs.Answer.{module_file_broken}
+use Rattle.verilog.specs.Answer.{module_answer}
 use Rattle.translate.specs.Translation.{netlist_of}
 
 -- the netlist of a file, and its bytes
@@ -26,20 +23,16 @@ translated_bytes file = netlist_bytes (netlist_of_file file)
 abbrev pub cell_count : List ℕ → ℕ
 cell_count file = length (netlist_of_file file).cells
 
--- 12, over 1,024 cells; 13, the output buffer shorter than the netlist; both at place 0
-abbrev pub size_rules : ℕ → ℕ → ℕ → List (For Found)
-size_rules cells size room = Rule.Cells by found_if (ltb most_cells cells) 0 ∷ Rule.Buffer by found_if (ltb room size) 0 ∷ []
+-- after refusals 1 to 11: 12, over 1,024 cells; then 13, the output buffer shorter than the netlist; both at place 0
+abbrev pub after_check : Answer → ℕ → ℕ → ℕ → Translation
+after_check (Answer.Refused rule place) cells size room = Translation.Refused rule place
+after_check Answer.Accepted cells size room =
+    cond (ltb most_cells cells) (Translation.Refused Rule.Cells 0)
+    (cond (ltb room size) (Translation.Refused Rule.Buffer 0) (Translation.Written size cells))
 
--- acceptance returns length and cell count
-abbrev pub as_translation : Answer → ℕ → ℕ → Translation
-as_translation Answer.Accepted size cells = Translation.Written size cells
-as_translation (Answer.Refused rule place) size cells = Translation.Refused rule place
-
--- what translating a file into a buffer of `room` bytes answers: by where the file breaks a rule, then by the sizes
+-- what translating a file into a buffer of `room` bytes answers
 unfoldable pub translate_answer : List ℕ → ℕ → Translation
-translate_answer file room =
-    let size : ℕ = length (translated_bytes file) in
-    as_translation (first_refusal (λ rule. or_else (module_file_broken file rule) (for_rule Found.Nowhere (size_rules (cell_count file) size room) rule))) size (cell_count file)
+translate_answer file room = after_check (module_answer file) (cell_count file) (length (translated_bytes file)) room
 
 -- what the buffer holds then: on acceptance the netlist, and beyond it the bytes that were there; on refusal what was there
 abbrev pub buffer_after : Translation → List ℕ → List ℕ → List ℕ

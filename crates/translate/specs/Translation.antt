@@ -2,13 +2,13 @@
 use Rattle.std.specs.Prelude.{cond, List, [], ◌∷◌, ◌++◌, ℕ, ◌+◌, length}
 use Rattle.words.specs.declared.TwoOperand.TheVariants as two-operand
 use Rattle.words.specs.Operators.{one_width, two_width}
-use Rattle.netlist_lists.specs.Lists.{Netlist, operand_width}
-use Rattle.netlist_lists.specs.Rules.{registers_from}
-use Rattle.netlist_lists.specs.declared.Operand.{Operand}
-use Rattle.netlist_lists.specs.declared.Operand.TheVariants as Operand
-use Rattle.netlist_lists.specs.declared.Cell.{Cell}
-use Rattle.netlist_lists.specs.declared.Cell.TheVariants as Cell
-use Rattle.netlist_lists.specs.declared.Drive.{Drive}
+use Rattle.netlist.specs.Lists.{Netlist, operand_width}
+use Rattle.netlist.specs.Rules.{registers_from}
+use Rattle.netlist.specs.declared.Operand.{Operand}
+use Rattle.netlist.specs.declared.Operand.TheVariants as Operand
+use Rattle.netlist.specs.declared.Cell.{Cell}
+use Rattle.netlist.specs.declared.Cell.TheVariants as Cell
+use Rattle.netlist.specs.declared.Drive.{Drive}
 use Rattle.verilog.specs.Tree.{Expression, constant, variable, fixed_bit, chosen_bit, one, two, Statement, assign, assign_bit, if_else, case, Block, end, ◌then◌, Items, default, item, Module}
 use Rattle.verilog.specs.Cycle.{delays_any}
 use Rattle.translate.specs.Tables.{Tables, themselves, operand_at, held_operand, replaced, Translated, merge_tables}

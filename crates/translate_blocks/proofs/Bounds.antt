@@ -5,7 +5,6 @@ use mathlib.Core.List.{List, [], ◌∷◌, ◌++◌}
 use Prim.Native.Nat.{ℕ, zero, suc, ◌+◌, ◌*◌, ◌≤◌}
 use native.Mathlib.Omega.{arith}
 use lib.ListN.{length, get_or, drop, length-append, length-drop, length-set}
-use Rattle.tagged.specs.Limits.{statement_levels}
 use Rattle.tagged.specs.Sorts.{on_expression, is_sort}
 use Rattle.tagged.specs.Fields.{Placed, Field, fields_at}
 use Rattle.tagged.specs.declared.sorts.StatementSort.{StatementSort}
@@ -14,11 +13,11 @@ use Rattle.tagged.specs.declared.sorts.ExpressionSort.{ExpressionSort}
 use Rattle.tagged.specs.declared.sorts.ExpressionSort.TheVariants as ExpressionSort
 use Rattle.tagged.specs.declared.sorts.Sort.{Sort}
 use Rattle.tagged.specs.declared.sorts.Sort.TheVariants as Sort
-use Rattle.netlist_lists.specs.Lists.{operand_width}
-use Rattle.netlist_lists.specs.declared.Operand.{Operand}
-use Rattle.netlist_lists.specs.declared.Operand.TheVariants as Operand
-use Rattle.netlist_lists.specs.declared.Cell.{Cell}
-use Rattle.netlist_lists.specs.declared.Cell.TheVariants as Cell
+use Rattle.netlist.specs.Lists.{operand_width}
+use Rattle.netlist.specs.declared.Operand.{Operand}
+use Rattle.netlist.specs.declared.Operand.TheVariants as Operand
+use Rattle.netlist.specs.declared.Cell.{Cell}
+use Rattle.netlist.specs.declared.Cell.TheVariants as Cell
 use Rattle.verilog.specs.Tree.{Expression}
 use Rattle.verilog.specs.Reading.{no_expression, after_front, expression_with, expression_in}
 use Rattle.translate.specs.Translation.{Emitted, translate_expression}
@@ -223,7 +222,7 @@ module _ (count : ℕ) where
   unfolding write_process
   process-bounded s l table n =
       test-holds (λ (w : Written). Bounded (length l) table w) (is_sort Sort.Process s)
-      (more_bytes (fields_within 0 l) (all-bounded (write_statement count statement_levels) (statement-bounded statement_levels) (fields_at 0 l) table n))
+      (more_bytes (fields_within 0 l) (all-bounded (write_statement count 30) (statement-bounded 30) (fields_at 0 l) table n))
       (nothing (length l) table)
 
   pub processes-bounded : (l table : List ℕ) (n : ℕ) → Bounded (length l) table (write_processes count l table n)

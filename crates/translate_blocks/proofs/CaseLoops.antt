@@ -10,9 +10,9 @@ use lib.ListN.{length, set, length-append}
 use lib.Seq.{append_snoc, set-append_seam}
 use borrow.Author.Tests.{eqb-true}
 use Rattle.tagged.specs.Fields.{Placed, Field, fields_at}
-use Rattle.netlist_lists.specs.declared.Operand.{Operand}
-use Rattle.netlist_lists.specs.declared.Operand.TheVariants as Operand
-use Rattle.netlist_lists.specs.declared.Cell.{Cell}
+use Rattle.netlist.specs.declared.Operand.{Operand}
+use Rattle.netlist.specs.declared.Operand.TheVariants as Operand
+use Rattle.netlist.specs.declared.Cell.{Cell}
 use Rattle.translate_blocks.specs.Words.{Written, merge_words}
 use Rattle.translate_blocks.specs.Writing.{Translator, behind, untouched, join_words, write_items, write_item}
 use Rattle.translate_blocks.specs.Log.{changes, Changes, and_change, changes_from, changes_of, put_words, patched, log_entries, Forward, onward, arrived, equal_cell, mark_of, forward_items, merge_mark, backward_items}

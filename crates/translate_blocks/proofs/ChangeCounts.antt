@@ -9,7 +9,7 @@ use native.Mathlib.Omega.{arith}
 use lib.Dec.{eqb}
 use lib.ListN.{length, get_or, set}
 use borrow.Author.Tests.{eqb-true, eqb-false, eq-eqb}
-use Rattle.netlist_lists.specs.declared.Operand.{Operand}
+use Rattle.netlist.specs.declared.Operand.{Operand}
 use Rattle.translate_blocks.specs.Words.{Written, same_word, mux_word, merge_words}
 use Rattle.translate_blocks.specs.Log.{unlike, changes}
 

@@ -13,10 +13,10 @@ use Rattle.tagged.specs.Bytes.{Wrote}
 use Rattle.tagged.specs.Fields.{all_bytes_of}
 use Rattle.tagged.proofs.AllBytesLaws.{all-length, bytes-joined}
 use Rattle.tagged.proofs.WriteLaws.{wrote_then, wrote_none}
-use Rattle.netlist_lists.specs.Form.{drive_bytes}
-use Rattle.netlist_lists.specs.declared.Drive.{Drive}
-use Rattle.netlist_lists.proofs.CellBytes.{drive-length}
-use Rattle.netlist_lists.proofs.PutLaws.{wrote_as}
+use Rattle.netlist.specs.Form.{drive_bytes}
+use Rattle.netlist.specs.declared.Drive.{Drive}
+use Rattle.netlist.proofs.CellBytes.{drive-length}
+use Rattle.netlist.proofs.PutLaws.{wrote_as}
 use Rattle.translate_blocks.specs.Ends.{drive_by, marked_drive, drives_from}
 
 module _ (count : ℕ) (firsts table : List ℕ) where

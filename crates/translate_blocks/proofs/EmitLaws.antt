@@ -9,10 +9,10 @@ use Rattle.tagged.specs.Bytes.{Wrote}
 use Rattle.tagged.specs.Fields.{all_bytes_of}
 use Rattle.tagged.proofs.AllBytesLaws.{all-length, bytes-joined}
 use Rattle.tagged.proofs.WriteLaws.{wrote_then, wrote_none, wrote-length}
-use Rattle.netlist_lists.specs.Form.{cell_bytes}
-use Rattle.netlist_lists.specs.declared.Cell.{Cell}
-use Rattle.netlist_lists.proofs.CellBytes.{cell-length}
-use Rattle.netlist_lists.proofs.PutLaws.{wrote_as}
+use Rattle.netlist.specs.Form.{cell_bytes}
+use Rattle.netlist.specs.declared.Cell.{Cell}
+use Rattle.netlist.proofs.CellBytes.{cell-length}
+use Rattle.netlist.proofs.PutLaws.{wrote_as}
 use Rattle.translate_blocks.specs.Writing.{Emits}
 
 -- nothing is emitted

@@ -10,7 +10,7 @@ use Rattle.tagged.specs.declared.sorts.Sort.{Sort}
 use Rattle.tagged.specs.declared.fields.Opened.{Opened}
 use Rattle.tagged.specs.declared.fields.Opened.TheVariants as Opened
 use Rattle.tagged.proofs.FieldLists.{field-within, field-more, field-none}
-use Rattle.netlist_lists.specs.declared.Cell.{Cell}
+use Rattle.netlist.specs.declared.Cell.{Cell}
 use Rattle.translate_blocks.specs.Words.{Written}
 use Rattle.translate_blocks.specs.Writing.{Translator, behind, untouched, write_all, Translates, Room}
 use Rattle.translate_blocks.proofs.Bounds.{Bounded}

@@ -9,7 +9,7 @@ use lib.ListN.{length, get_or, take, drop, length-append, length-drop}
 use lib.Seq.{length-take-le}
 use Rattle.tagged.specs.Bytes.{Wrote}
 use Rattle.tagged.proofs.WriteLaws.{wrote-length}
-use Rattle.netlist_lists.specs.Fits.{Every}
+use Rattle.netlist.specs.Fits.{Every}
 use Rattle.translate_blocks.specs.Log.{Mark, log_slots, log_words, Loggable, Filed, mark_start, changes_below, mark_at}
 use Rattle.translate_blocks.proofs.LogParts.{part-grown, part_same, PartEnd, part_end}
 

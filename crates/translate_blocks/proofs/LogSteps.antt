@@ -13,8 +13,8 @@ use lib.Seq.{drop-cons, take-suc, take-suc-set, take_all, drop-set-lt}
 use borrow.Author.Tests.{eq-eqb, ne_eqb}
 use Rattle.tagged.specs.Bytes.{Wrote}
 use Rattle.tagged.proofs.WriteLaws.{wrote_then, wrote_none}
-use Rattle.netlist_lists.specs.declared.Operand.TheVariants as Operand
-use Rattle.netlist_lists.proofs.PutLaws.{wrote_as}
+use Rattle.netlist.specs.declared.Operand.TheVariants as Operand
+use Rattle.netlist.proofs.PutLaws.{wrote_as}
 use Rattle.translate_blocks.specs.Words.{Written, merge_words}
 use Rattle.translate_blocks.specs.Writing.{Emits}
 use Rattle.translate_blocks.specs.Log.{changes, Changes, and_change, changes_from, changes_of, put_words, patched, Mark, merge_mark, backward_items, Filed, ItemLogged, mark_start, changes_below, mark_at}

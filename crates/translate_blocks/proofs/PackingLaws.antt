@@ -10,9 +10,9 @@ use lib.ListN.{length, get_or, take, set}
 use lib.Seq.{take-suc, take-suc-set, take_all}
 use mathlib.Core.List.{List, [], ◌∷◌, ◌++◌}
 use borrow.Author.Tests.{eqb-true, eq-eqb, ne_eqb}
-use Rattle.netlist_lists.specs.Fits.{FitsByte, FitsFour, FitsOperand}
-use Rattle.netlist_lists.specs.declared.Operand.{Operand}
-use Rattle.netlist_lists.specs.declared.Operand.TheVariants as Operand
+use Rattle.netlist.specs.Fits.{FitsByte, FitsFour, FitsOperand}
+use Rattle.netlist.specs.declared.Operand.{Operand}
+use Rattle.netlist.specs.declared.Operand.TheVariants as Operand
 use Rattle.translate.specs.Tables.{same_operand}
 use Rattle.translate_blocks.specs.Words.{word_of, packed, unpacked}
 use Rattle.translate.proofs.Merging.{same_operand_lem}

@@ -8,7 +8,7 @@ use native.Mathlib.Omega.{arith}
 use lib.ListN.{length, get_or, set, drop, length-append, drop_of_length-le}
 use lib.Seq.{sets, drop-cons}
 use Rattle.tagged.proofs.WriteLaws.{sets-append, sets-all}
-use Rattle.netlist_lists.specs.declared.Operand.TheVariants as Operand
+use Rattle.netlist.specs.declared.Operand.TheVariants as Operand
 use Rattle.translate_blocks.specs.Words.{packed}
 use Rattle.translate_blocks.specs.Ends.{start_from, start_words}
 

@@ -9,7 +9,6 @@ use native.Mathlib.Numerals.{sub-one}
 use native.Mathlib.Omega.{arith}
 use lib.ListN.{length, get_or, take, drop, set}
 use lib.Seq.{take-take}
-use Rattle.tagged.specs.Limits.{statement_levels}
 use Rattle.tagged.specs.Sorts.{on_statement, is_sort}
 use Rattle.tagged.specs.Fields.{open_of, fields_at}
 use Rattle.tagged.specs.declared.sorts.Kind.{Kind}
@@ -19,11 +18,11 @@ use Rattle.tagged.specs.declared.sorts.Sort.TheVariants as Sort
 use Rattle.tagged.specs.declared.fields.Opened.{Opened}
 use Rattle.tagged.specs.declared.fields.Opened.TheVariants as Opened
 use Rattle.tagged.proofs.SortLaws.{is-itself}
-use Rattle.netlist_lists.specs.Lists.{operand_width}
-use Rattle.netlist_lists.specs.declared.Operand.{Operand}
-use Rattle.netlist_lists.specs.declared.Operand.TheVariants as Operand
-use Rattle.netlist_lists.specs.declared.Cell.{Cell}
-use Rattle.netlist_lists.specs.declared.Cell.TheVariants as Cell
+use Rattle.netlist.specs.Lists.{operand_width}
+use Rattle.netlist.specs.declared.Operand.{Operand}
+use Rattle.netlist.specs.declared.Operand.TheVariants as Operand
+use Rattle.netlist.specs.declared.Cell.{Cell}
+use Rattle.netlist.specs.declared.Cell.TheVariants as Cell
 use Rattle.verilog.specs.Reading.{expression_in, after_front}
 use Rattle.verilog.proofs.FormLaws.{Among, but_statement, but_block, but_process, not-statement, is-missed}
 use Rattle.translate.specs.Translation.{Emitted, translate_expression}
@@ -342,7 +341,7 @@ module _ (count d : ℕ) (l table : List ℕ) (n : ℕ) where
       block-other k = block-step count d l table n h s ∙ rw (is-missed Sort.Block s but_block tt k)
 
 module _ (count : ℕ) (s : Sort) (l table : List ℕ) (n : ℕ) where
-  pub process-of : s ≡ Sort.Process → write_process count s l table n ≡ write_all (write_statement count statement_levels) (fields_at 0 l) table n
+  pub process-of : s ≡ Sort.Process → write_process count s l table n ≡ write_all (write_statement count 30) (fields_at 0 l) table n
   unfolding write_process
   process-of e = rw (e, is-itself Sort.Process)
 

@@ -1,7 +1,7 @@
 -- What the code of the translation begins and ends with: the table of words in which each variable is itself, and a drive for each variable that is marked as a register.
 use Rattle.std.specs.Prelude.{cond, List, [], ◌∷◌, ◌++◌, ℕ, ◌+◌, ◌%◌, eqb, length, get_or}
-use Rattle.netlist_lists.specs.declared.Operand.TheVariants as Operand
-use Rattle.netlist_lists.specs.declared.Drive.{Drive}
+use Rattle.netlist.specs.declared.Operand.TheVariants as Operand
+use Rattle.netlist.specs.declared.Drive.{Drive}
 use Rattle.translate_blocks.specs.Words.{packed, unpacked}
 
 -- the word of each variable itself, by its width; v is the first one's number

@@ -3,11 +3,11 @@
 use Rattle.std.specs.Prelude.{◌≡◌, cond, List, [], ◌∷◌, ◌++◌, ℕ, ◌+◌, ◌-◌, ◌%◌, ◌^◌, ◌≤◌, ◌<◌, eqb, length, get_or, take, drop, set}
 use Rattle.words.specs.declared.TwoOperand.TheVariants as two-operand
 use Rattle.tagged.specs.Fields.{Placed, Field}
-use Rattle.netlist_lists.specs.Fits.{Every}
-use Rattle.netlist_lists.specs.declared.Operand.{Operand}
-use Rattle.netlist_lists.specs.declared.Operand.TheVariants as Operand
-use Rattle.netlist_lists.specs.declared.Cell.{Cell}
-use Rattle.netlist_lists.specs.declared.Cell.TheVariants as Cell
+use Rattle.netlist.specs.Fits.{Every}
+use Rattle.netlist.specs.declared.Operand.{Operand}
+use Rattle.netlist.specs.declared.Operand.TheVariants as Operand
+use Rattle.netlist.specs.declared.Cell.{Cell}
+use Rattle.netlist.specs.declared.Cell.TheVariants as Cell
 use Rattle.translate_blocks.specs.Words.{Written, merge_words}
 use Rattle.translate_blocks.specs.Writing.{Emits, Translator, behind, untouched, item_operand, LogKept}
 use Rattle.verilog.specs.Reading.{by_branch}

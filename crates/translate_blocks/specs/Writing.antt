@@ -2,7 +2,6 @@
 -- Throughout, `count` is how many variables there are, n how many cells there are before, and the number d how many levels may be opened.
 use Rattle.std.specs.Prelude.{◌≡◌, cond, List, [], ◌∷◌, ◌++◌, ℕ, zero, suc, ◌+◌, ◌*◌, ◌^◌, ◌≤◌, length, get_or, take, drop, set}
 use Rattle.words.specs.declared.TwoOperand.TheVariants as two-operand
-use Rattle.tagged.specs.Limits.{statement_levels}
 use Rattle.tagged.specs.Bytes.{Wrote, four_of}
 use Rattle.tagged.specs.Sorts.{on_statement, is_sort}
 use Rattle.tagged.specs.Fields.{Placed, Field, fields_at, all_bytes_of}
@@ -11,12 +10,12 @@ use Rattle.tagged.specs.declared.sorts.StatementSort.{StatementSort}
 use Rattle.tagged.specs.declared.sorts.StatementSort.TheVariants as StatementSort
 use Rattle.tagged.specs.declared.sorts.Sort.{Sort}
 use Rattle.tagged.specs.declared.sorts.Sort.TheVariants as Sort
-use Rattle.netlist_lists.specs.Lists.{operand_width}
-use Rattle.netlist_lists.specs.Form.{cell_bytes}
-use Rattle.netlist_lists.specs.declared.Operand.{Operand}
-use Rattle.netlist_lists.specs.declared.Operand.TheVariants as Operand
-use Rattle.netlist_lists.specs.declared.Cell.{Cell}
-use Rattle.netlist_lists.specs.declared.Cell.TheVariants as Cell
+use Rattle.netlist.specs.Lists.{operand_width}
+use Rattle.netlist.specs.Form.{cell_bytes}
+use Rattle.netlist.specs.declared.Operand.{Operand}
+use Rattle.netlist.specs.declared.Operand.TheVariants as Operand
+use Rattle.netlist.specs.declared.Cell.{Cell}
+use Rattle.netlist.specs.declared.Cell.TheVariants as Cell
 use Rattle.verilog.specs.Reading.{front_by, after_front, expression_in, by_branch}
 use Rattle.translate_blocks.specs.Words.{packed, unpacked, slot_of, current_operands, Written, merge_words}
 use Rattle.translate.specs.Translation.{Emitted, translate_expression}
@@ -139,9 +138,9 @@ unfoldable mutual
   write_item count zero l table n = untouched table
   write_item count (suc d) l table n = write_front (λ u p w k. write_block count d u p w k) (after_front l) table n
 
--- the statements of a process
+-- a process's statements have 30 levels left
 unfoldable pub write_process : ℕ → Translator
-write_process count s l table n = cond (is_sort Sort.Process s) (write_all (write_statement count statement_levels) (fields_at 0 l) table n) (untouched table)
+write_process count s l table n = cond (is_sort Sort.Process s) (write_all (write_statement count 30) (fields_at 0 l) table n) (untouched table)
 
 -- the processes of a list
 unfoldable pub write_processes : ℕ → List ℕ → List ℕ → ℕ → Written

@@ -7,7 +7,7 @@ ghost use Rattle.translate_blocks.specs.Log.{changes, changes_of, put_words, Mar
 use crate::emit::Emission;
 use crate::merge_words::merge;
 use crate::packing::{copy_words, put_word, word_at};
-use netlist_lists::Operand;
+use netlist::Operand;
 use tagged::bytes::{byte_at, put_byte};
 use tagged::limits::Variables;
 

@@ -2,8 +2,8 @@
 ghost use Rattle.std.specs.Prelude.{[], ◌∷◌, ◌+◌, ◌^◌, ◌≤◌};
 ghost use Rattle.translate_blocks.specs.Writing.{Emits};
 
-use netlist_lists::Cell;
-use netlist_lists::write::put_cell;
+use netlist::Cell;
+use netlist::write::put_cell;
 
 // Where the next byte goes, and how many cells there are.
 #[derive(Drop)]

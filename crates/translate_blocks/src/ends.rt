@@ -4,12 +4,12 @@ ghost use Rattle.std.proofs.lemmas.List.Edits.{sets};
 ghost use Rattle.tagged.specs.Limits.{most_variables};
 ghost use Rattle.tagged.specs.Bytes.{Wrote};
 ghost use Rattle.tagged.specs.Fields.{all_bytes_of};
-ghost use Rattle.netlist_lists.specs.Form.{drive_bytes};
+ghost use Rattle.netlist.specs.Form.{drive_bytes};
 ghost use Rattle.translate_blocks.specs.Ends.{start_from, start_words, drive_slot, drive_by, marked_drive, drives_by};
 
 use crate::packing::{pack, put_word, unpack, word_at};
-use netlist_lists::write::put_drive;
-use netlist_lists::{Drive, Operand};
+use netlist::write::put_drive;
+use netlist::{Drive, Operand};
 use verilog_check::judge::first_of;
 
 // Puts the word of each variable itself, from an index on.

@@ -1,8 +1,8 @@
 // The cells of an expression, over a part of the file: its operands left to right, then its own. What cannot happen in an accepted file is the constant 0.
 ghost use Rattle.std.specs.Prelude.{◌≡◌, List, [], map, ℕ, ◌+◌, ◌*◌, ◌^◌, ◌≤◌, length, get_or};
 ghost use Rattle.words.specs.Operators.{one_width, two_width};
-ghost use Rattle.netlist_lists.specs.Lists.{operand_width};
-ghost use Rattle.netlist_lists.specs.declared.Cell.TheVariants as Cell;
+ghost use Rattle.netlist.specs.Lists.{operand_width};
+ghost use Rattle.netlist.specs.declared.Cell.TheVariants as Cell;
 ghost use Rattle.verilog.specs.Reading.{expression_with, expression_in};
 ghost use Rattle.translate.specs.Tables.{operand_at};
 ghost use Rattle.translate.specs.Translation.{with_cell, translate_expression};
@@ -11,7 +11,8 @@ ghost use Rattle.translate_blocks.specs.Writing.{no_cell, EmitsExpression};
 
 use crate::emit::emit;
 use crate::packing::{unpack, word_at};
-use netlist_lists::{Cell, Operand, operand_width};
+use netlist::rules::operand_width;
+use netlist::{Cell, Operand};
 use tagged::bytes::{byte_at, four_of, from};
 use tagged::fields::{Opened, open_field};
 use tagged::sorts::{ExpressionSort, Sort};

@@ -1,14 +1,15 @@
 // The merge of two tables after two sides of an if or of a case: where they differ, a mux chooses.
 ghost use Rattle.std.specs.Prelude.{◌≡◌, [], ◌∷◌, ◌+◌, ◌*◌, ◌^◌, ◌≤◌, length};
-ghost use Rattle.netlist_lists.specs.Lists.{operand_width};
-ghost use Rattle.netlist_lists.specs.declared.Operand.TheVariants as Operand;
-ghost use Rattle.netlist_lists.specs.declared.Cell.TheVariants as Cell;
+ghost use Rattle.netlist.specs.Lists.{operand_width};
+ghost use Rattle.netlist.specs.declared.Operand.TheVariants as Operand;
+ghost use Rattle.netlist.specs.declared.Cell.TheVariants as Cell;
 ghost use Rattle.translate_blocks.specs.Words.{packed, unpacked, merge_words};
 ghost use Rattle.translate_blocks.specs.Writing.{Emits};
 
 use crate::emit::{Emission, emit};
 use crate::packing::{pack, put_word, unpack};
-use netlist_lists::{Cell, Operand, operand_width};
+use netlist::rules::operand_width;
+use netlist::{Cell, Operand};
 
 // The word that an entry has after a merge, where the next byte goes, and how many cells there are.
 #[derive(Drop)]

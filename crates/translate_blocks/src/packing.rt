@@ -2,7 +2,7 @@
 ghost use Rattle.std.specs.Prelude.{◌≡◌, ◌^◌, ◌≤◌, length, get_or, take, set};
 ghost use Rattle.translate_blocks.specs.Words.{word_of, packed, unpacked, slot_of};
 
-use netlist_lists::Operand;
+use netlist::Operand;
 use tagged::sorts::Kind;
 
 // Kind, width and number in one word.

@@ -8,18 +8,14 @@ use lib.ListN.{length, get_or, length-map}
 use borrow.Author.Tests.{eq-eqb}
 use Rattle.words.specs.Values.{Outcome, got}
 use Rattle.tagged.specs.Answers.{Promise}
-use Rattle.declarations.specs.Declarations.{Declaration, width_of}
-use Rattle.declarations.specs.Rows.{row_bytes, row_numbers, all_fit, rows_fit, row_answer}
-use Rattle.declarations.specs.Runs.{run_answer_of, row_left}
-use Rattle.declarations.specs.Cycles.{with_inputs, inputs_fit, cycles_by}
+use Rattle.tagged.specs.Declarations.{Declaration, width_of}
+use Rattle.tagged.specs.Rows.{row_bytes, row_numbers, all_fit, rows_fit, row_answer}
+use Rattle.tagged.specs.Runs.{run_answer_of, row_left}
+use Rattle.tagged.specs.Cycles.{with_inputs, inputs_fit, cycles_by}
 use Rattle.tagged.specs.declared.answers.Answer.{Answer}
 use Rattle.tagged.specs.declared.answers.Answer.TheVariants as Answer
-use Rattle.tagged.specs.declared.answers.Rule.{Rule}
-use Rattle.tagged.specs.declared.answers.Found.{Found}
-use Rattle.tagged.specs.Refusals.{first_refusal}
-use Rattle.declarations.proofs.RunPromises.{run-answered}
-use Rattle.declarations.proofs.RowLaws.{row_back, bytes-length, fits-length}
-use Rattle.declarations.proofs.CycleLaws.{with-inputs-fits, Steps}
+use Rattle.tagged.proofs.RowLaws.{row_back, bytes-length, fits-length}
+use Rattle.tagged.proofs.CycleLaws.{with-inputs-fits, Steps}
 use Rattle.translator.specs.Calls.{RunCall, Calls, no_call, call}
 
 -- the numbers of a row's bytes are the row
@@ -30,17 +26,17 @@ pub numbers-given : (widths row : List ℕ) → all_fit widths row ≡ true → 
 numbers-given widths row fits small = ap (λ (n : ℕ). row_numbers n (row_bytes row)) (sym (fits-length widths row fits)) ∙ numbers-back row small
 
 -- a call on the bytes of a row that fits is accepted, and leaves the bytes of the next row
-pub run-given : (broken : Rule → Found) (widths row next after : List ℕ) (cycle : Outcome (List ℕ)) → first_refusal broken ≡ Answer.Accepted → all_fit widths row ≡ true →
+pub run-given : (answer : Answer) (widths row next after : List ℕ) (cycle : Outcome (List ℕ)) → answer ≡ Answer.Accepted → all_fit widths row ≡ true →
     ((i : ℕ) → get_or row i 0 < 2 ^ 32) → length next ≡ 4 * length widths → cycle ≡ got after → {given : Answer} {left : List ℕ} →
-    Promise (run_answer_of broken widths (row_bytes row) (length next)) (row_left (run_answer_of broken widths (row_bytes row) (length next)) cycle next) given left →
+    Promise (run_answer_of answer widths (row_bytes row) (length next)) (row_left (run_answer_of answer widths (row_bytes row) (length next)) cycle next) given left →
     (given ≡ Answer.Accepted) × (left ≡ row_bytes after)
-unfolding row_answer rows_fit
-run-given broken widths row next after cycle accepted fits small long ran p =
+unfolding run_answer_of row_answer rows_fit
+run-given answer widths row next after cycle accepted fits small long ran p =
     let count : length row ≡ length widths = fits-length widths row fits in
     let back : row_numbers (length widths) (row_bytes row) ≡ row = numbers-given widths row fits small in
     let row-long : length (row_bytes row) ≡ 4 * length widths = bytes-length row ∙ ap (λ (n : ℕ). 4 * n) count in
-    let yes : run_answer_of broken widths (row_bytes row) (length next) ≡ Answer.Accepted =
-    run-answered broken widths (row_bytes row) (length next) ∙ rw (accepted, eq-eqb (length (row_bytes row)) (4 * length widths) row-long, eq-eqb (length next) (4 * length widths) long, back, fits) in
+    let yes : run_answer_of answer widths (row_bytes row) (length next) ≡ Answer.Accepted =
+    rw (accepted, eq-eqb (length (row_bytes row)) (4 * length widths) row-long, eq-eqb (length next) (4 * length widths) long, back, fits) in
     (p.answered ∙ yes, p.leaves ∙ ap₂ (λ (a : Answer) (o : Outcome (List ℕ)). row_left a o next) yes ran)
 
 -- what the calls from a row with some input rows give

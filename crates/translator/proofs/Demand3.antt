@@ -22,31 +22,28 @@ use borrow.Author.Tests.{leb-true, le-ltb, ltb-true}
 use Rattle.words.specs.Values.{Outcome, got}
 use Rattle.words.specs.Widths.{fits_width}
 use Rattle.tagged.specs.Limits.{most_cells}
-use Rattle.declarations.specs.Declarations.{Declaration, width_of}
-use Rattle.declarations.specs.Rows.{row_bytes, all_fit}
-use Rattle.declarations.specs.Cycles.{inputs_fit, cycles_by}
+use Rattle.tagged.specs.Declarations.{Declaration, width_of}
+use Rattle.tagged.specs.Rows.{row_bytes, all_fit}
+use Rattle.tagged.specs.Cycles.{inputs_fit, cycles_by}
 use Rattle.tagged.specs.declared.answers.Answer.{Answer}
 use Rattle.tagged.specs.declared.answers.Answer.TheVariants as Answer
 use Rattle.tagged.specs.declared.answers.Translation.{Translation}
 use Rattle.tagged.specs.declared.answers.Translation.TheVariants as Translation
 use Rattle.tagged.proofs.TestLaws.{both}
-use Rattle.declarations.proofs.CycleLaws.{Steps}
-use Rattle.netlist_lists.specs.Lists.{Netlist}
-use Rattle.netlist_lists.specs.Answer.{netlist_file_broken, netlist_answer}
-use Rattle.netlist_lists.specs.Reading.{netlist_in}
-use Rattle.netlist_lists.specs.Cycle.{netlist_cycle}
-use Rattle.netlist_lists.specs.Run as netlist-run
+use Rattle.tagged.proofs.CycleLaws.{Steps}
+use Rattle.netlist.specs.Lists.{Netlist}
+use Rattle.netlist.specs.Answer.{netlist_answer}
+use Rattle.netlist.specs.Reading.{netlist_in}
+use Rattle.netlist.specs.Cycle.{netlist_cycle}
+use Rattle.netlist.specs.Run as netlist-run
 use Rattle.verilog.specs.Reading.{module_in}
-use Rattle.verilog.specs.Answer.{module_file_broken, module_answer}
+use Rattle.verilog.specs.Answer.{module_answer}
 use Rattle.verilog.specs.Cycle.{module_cycle}
 use Rattle.verilog.specs.Run as module-run
 use Rattle.verilog.proofs.Typed.{WidthsFit, no-widths, more-widths, TypedModule}
 use Rattle.verilog.proofs.AcceptedTyped.{accepted-typed}
 use Rattle.verilog.proofs.AcceptedModule.{accepted-tree}
 use Rattle.translate.specs.Translation.{netlist_of}
-use Rattle.tagged.specs.Order.{number_of}
-use Rattle.tagged.specs.Refusals.{first_of}
-use Rattle.translate.proofs.TranslateAnswers.{translate-answered}
 use Rattle.translate.specs.Answer.{netlist_of_file, translated_bytes, cell_count, translate_answer, translate_buffer}
 use Rattle.translate.proofs.Agrees.{agrees}
 use Rattle.translate.proofs.Demand3 as definitions
@@ -109,8 +106,8 @@ module _ (file : List ℕ) (accepted : module_answer file ≡ Answer.Accepted) (
 
   -- (a)
   long-enough : (room : ℕ) → size ≤ room → translate_answer file room ≡ Translation.Written size (cell_count file)
-  unfolding first_of number_of
-  long-enough room h = translate-answered file room ∙ rw (accepted, le-ltb most_cells (cell_count file) few, le-ltb room size h)
+  unfolding translate_answer
+  long-enough room h = rw (accepted, le-ltb most_cells (cell_count file) few, le-ltb room size h)
 
   left_is : (buffer left : List ℕ) → size ≤ length buffer → left ≡ translate_buffer file buffer → left ≡ translated_bytes file ++ drop size buffer
   unfolding translate_buffer
@@ -144,14 +141,14 @@ module _ (file : List ℕ) (accepted : module_answer file ≡ Answer.Accepted) (
 
     module-one : module_cycle (module_in file) row ≡ got after → (answer : Answer) (left : List ℕ) → module_call file (row_bytes row) next answer left →
         (answer ≡ Answer.Accepted) × (left ≡ row_bytes after)
-    unfolding module-run.run_answer module-run.run_leaves module_answer
+    unfolding module-run.run_answer module-run.run_leaves
     module-one ran answer left p =
-        run-given (module_file_broken file) (map width_of ds) row next after (module-run.cycle_of file (row_bytes row)) accepted fits (small row fits) next-long
+        run-given (module_answer file) (map width_of ds) row next after (module-run.cycle_of file (row_bytes row)) accepted fits (small row fits) next-long
         (ap (module_cycle (module_in file)) (numbers-given (map width_of ds) row fits (small row fits)) ∙ ran) p
 
     netlist-one : (netlist : List ℕ) → netlist ≡ translated_bytes file → netlist_cycle (netlist_of_file file) row ≡ got after → (answer : Answer) (left : List ℕ) →
         netlist_call netlist (row_bytes row) next answer left → (answer ≡ Answer.Accepted) × (left ≡ row_bytes after)
-    unfolding netlist-run.run_answer netlist-run.run_leaves netlist_answer netlist_of
+    unfolding netlist-run.run_answer netlist-run.run_leaves netlist_of
     netlist-one netlist is ran answer left p =
         let lists : netlist_in netlist ≡ netlist_of_file file = ap netlist_in is ∙ whole.lists in
         let widths-are : netlist-run.file_widths netlist ≡ map width_of ds = ap (λ (n : Netlist). map width_of n.declarations) lists in
@@ -159,7 +156,7 @@ module _ (file : List ℕ) (accepted : module_answer file ≡ Answer.Accepted) (
         let fits-widths : all_fit (netlist-run.file_widths netlist) row ≡ true = rw widths-are fits in
         let ran_on : netlist-run.cycle_of netlist (row_bytes row) ≡ got after =
         ap₂ (λ (n : Netlist) (r : List ℕ). netlist_cycle n r) lists (numbers-given (netlist-run.file_widths netlist) row fits-widths (small row fits)) ∙ ran in
-        run-given (netlist_file_broken netlist) (netlist-run.file_widths netlist) row next after (netlist-run.cycle_of netlist (row_bytes row)) (ap netlist_answer is ∙ whole.accepted)
+        run-given (netlist_answer netlist) (netlist-run.file_widths netlist) row next after (netlist-run.cycle_of netlist (row_bytes row)) (ap netlist_answer is ∙ whole.accepted)
         fits-widths (small row fits) long-row ran_on p
 
   -- (c) to (f)

@@ -7,12 +7,12 @@ use native.Mathlib.Omega.{arith}
 use lib.Dec.{eqb}
 use lib.ListN.{length, get_or, length-map}
 use Rattle.tagged.specs.Limits.{most_variables}
-use Rattle.declarations.specs.Declarations.{Declaration, input, register}
+use Rattle.tagged.specs.Declarations.{Declaration, input, register}
 use Rattle.tagged.specs.declared.sorts.Kind.TheVariants as Kind
-use Rattle.declarations.proofs.TableLaws.{mark_of}
-use Rattle.netlist_lists.specs.Rules.{registers_from}
-use Rattle.netlist_lists.specs.declared.Operand.{Operand}
-use Rattle.netlist_lists.specs.declared.Drive.{Drive}
+use Rattle.tagged.proofs.TableLaws.{mark_of}
+use Rattle.netlist.specs.Rules.{registers_from}
+use Rattle.netlist.specs.declared.Operand.{Operand}
+use Rattle.netlist.specs.declared.Drive.{Drive}
 use Rattle.verilog.specs.Tree.{Module}
 use Rattle.verilog.specs.Cycle.{delays_any}
 use Rattle.translate.specs.Tables.{Tables, operand_at}

@@ -5,8 +5,8 @@ use mathlib.Core.List.{List, ◌++◌}
 use Prim.Native.Nat.{ℕ, ◌+◌, ◌^◌, ◌≤◌}
 use native.Mathlib.Omega.{arith}
 use lib.ListN.{length, length-append}
-use Rattle.netlist_lists.specs.declared.Operand.{Operand}
-use Rattle.netlist_lists.specs.declared.Cell.{Cell}
+use Rattle.netlist.specs.declared.Operand.{Operand}
+use Rattle.netlist.specs.declared.Cell.{Cell}
 use Rattle.translate.specs.Tables.{Translated, merge_tables}
 use Rattle.translate_blocks.specs.Words.{Written}
 use Rattle.translate.specs.Translation.{after, joined}

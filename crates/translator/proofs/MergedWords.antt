@@ -6,8 +6,8 @@ use Prim.Native.Nat.{ℕ, ◌+◌}
 use native.Mathlib.Omega.{arith}
 use lib.Dec.{eqb}
 use lib.ListN.{length, length-map}
-use Rattle.netlist_lists.specs.Fits.{FitsOperand, Every}
-use Rattle.netlist_lists.specs.declared.Operand.{Operand}
+use Rattle.netlist.specs.Fits.{FitsOperand, Every}
+use Rattle.netlist.specs.declared.Operand.{Operand}
 use Rattle.translate.specs.Tables.{Tables, same_operand, Merged, kept, muxed, merge, Translated, merge_tables}
 use Rattle.translate_blocks.specs.Words.{packed, Written, same_word, mux_word, merge_words}
 use Rattle.translate_blocks.proofs.PackingLaws.{unpacked-packed, same-packed}

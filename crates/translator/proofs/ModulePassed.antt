@@ -5,22 +5,22 @@ use mathlib.Core.List.{List, ◌∷◌, ◌++◌, map, append_assoc}
 use Prim.Native.Nat.{ℕ, ◌+◌, ◌-◌, ◌≤◌, ◌<◌}
 use native.Mathlib.Omega.{arith}
 use lib.ListN.{length, get_or, take, drop, length-take, length-map}
-use Rattle.tagged.specs.Limits.{longest_module, most_variables, process_levels}
+use Rattle.tagged.specs.Limits.{longest_module, most_variables}
 use Rattle.tagged.specs.Bytes.{AllBytes, two_bytes}
 use Rattle.tagged.specs.Sorts.{tag_of}
 use Rattle.tagged.specs.Fields.{field_bytes, all_bytes_of, passed_bytes, unplaced}
 use Rattle.tagged.specs.Answers.{Promise}
-use Rattle.declarations.specs.Declarations.{width_of, declaration_bytes, declarations_in, declarations_step, variable_table}
-use Rattle.declarations.specs.declared.table.VariableTable.{VariableTable}
+use Rattle.tagged.specs.Declarations.{width_of, declaration_bytes, declarations_in, declarations_step, variable_table}
+use Rattle.tagged.specs.declared.declarations.VariableTable.{VariableTable}
 use Rattle.tagged.specs.declared.sorts.Sort.TheVariants as Sort
 use Rattle.tagged.specs.declared.answers.Answer.TheVariants as Answer
 use Rattle.tagged.specs.declared.answers.Translation.{Translation}
 use Rattle.tagged.proofs.ListBytes.{field-length}
-use Rattle.declarations.proofs.TableLaws.{mark_of, widths-known, marks-known}
-use Rattle.netlist_lists.specs.Lists.{Netlist}
-use Rattle.netlist_lists.specs.Form.{cell_bytes, drive_bytes, netlist_payload, netlist_bytes}
-use Rattle.netlist_lists.specs.declared.Cell.{Cell}
-use Rattle.netlist_lists.specs.declared.Drive.{Drive}
+use Rattle.tagged.proofs.TableLaws.{mark_of, widths-known, marks-known}
+use Rattle.netlist.specs.Lists.{Netlist}
+use Rattle.netlist.specs.Form.{cell_bytes, drive_bytes, netlist_payload, netlist_bytes}
+use Rattle.netlist.specs.declared.Cell.{Cell}
+use Rattle.netlist.specs.declared.Drive.{Drive}
 use Rattle.verilog.specs.Tree.{Module}
 use Rattle.verilog.specs.Form.{process_bytes}
 use Rattle.verilog.specs.Fits.{FitsModule, processes_depth}
@@ -37,8 +37,7 @@ use Rattle.verilog_check.proofs.TreeAnswers.{tree-fits, processes-deep, declared
 use Rattle.verilog_check.proofs.AcceptedFile.{one-kind, length-accepted, form-passed, few-variables, payload-declared}
 use Rattle.translate.specs.Tables.{Tables, themselves}
 use Rattle.translate.specs.Translation.{translate_all, translated_module, netlist_of}
-use Rattle.translate.specs.Answer.{netlist_of_file, translated_bytes, cell_count, translate_answer, buffer_after, translate_buffer}
-use Rattle.translate.proofs.TranslateAnswers.{after_check, translate-answered}
+use Rattle.translate.specs.Answer.{netlist_of_file, translated_bytes, cell_count, after_check, translate_answer, buffer_after, translate_buffer}
 use Rattle.translate.proofs.FittingTables.{FitsTables, start_fits}
 use Rattle.translate.proofs.CellBounds.{FewOperands, all-cells}
 use Rattle.translate_blocks.specs.Words.{Written}
@@ -65,7 +64,7 @@ bytes_whole n size e =
 
 -- a tree that is accepted, the bytes of its processes, the widths and marks of its declarations, and a table of first assignments
 module _ (m : Module) (accepted : tree_answer 3 m ≡ Answer.Accepted) (few : length m.declarations ≤ most_variables) (fits : FitsModule m)
-    (deep : processes_depth m.processes ≤ process_levels) (long : length (all_bytes_of process_bytes m.processes) ≤ longest_module)
+    (deep : processes_depth m.processes ≤ 31) (long : length (all_bytes_of process_bytes m.processes) ≤ longest_module)
     (firsts : List ℕ) (told : (v : ℕ) → v < most_variables → get_or firsts v 0 ≡ first_in v (unplaced (process_fields 3 m))) where
   abbrev widths : List ℕ
   widths = map width_of m.declarations
@@ -156,7 +155,7 @@ module _ (file : List ℕ) (bytes : AllBytes file) (accepted : module_answer fil
     abbrev told : (v : ℕ) → v < most_variables → get_or firsts v 0 ≡ first_in v (unplaced (process_fields 3 (module_in file)))
     told = firsts-told file bytes (length-accepted file accepted) (form-passed file accepted) payload part taken count list rest zeros room none firsts surveyed
 
-    abbrev deep : processes_depth (module_in file).processes ≤ process_levels
+    abbrev deep : processes_depth (module_in file).processes ≤ 31
     deep = processes-deep file bytes (length-accepted file accepted) (form-passed file accepted) payload part
 
     abbrev fits : FitsModule (module_in file)
@@ -191,10 +190,10 @@ module _ (file : List ℕ) (bytes : AllBytes file) (accepted : module_answer fil
     size_is = omega (arith, length-is, field-length (tag_of Sort.Netlist) (netlist_payload (netlist_of_file file)))
 
     answer-is : (space : ℕ) → pass_answer front given marked firsts list space ≡ translate_answer file space
-    unfolding pass_answer
+    unfolding pass_answer translate_answer
     answer-is space =
         ap₂ (λ (cells : List Cell) (size : ℕ). after_check Answer.Accepted (length cells) size space) cells_are length-is
-        ∙ ap (λ a. after_check a (cell_count file) (length (translated_bytes file)) space) (sym accepted) ∙ sym (translate-answered file space)
+        ∙ ap (λ a. after_check a (cell_count file) (length (translated_bytes file)) space) (sym accepted)
 
     -- so what both passes promise is what translating promises
     pub module-passed : (out : List ℕ) {answer : Translation} {left : List ℕ} →

@@ -27,15 +27,12 @@ use Rattle.tagged.specs.declared.limits.CellsMade.{CellsMade}
 use Rattle.tagged.specs.declared.limits.CellsMade.TheVariants as CellsMade
 use Rattle.tagged.proofs.AllBytesLaws.{all-length}
 use Rattle.tagged.proofs.WriteLaws.{wrote_then, wrote-roomy}
-use Rattle.netlist_lists.specs.Form.{cell_bytes, drive_bytes}
-use Rattle.netlist_lists.specs.declared.Drive.{Drive}
-use Rattle.netlist_lists.specs.declared.Cell.{Cell}
-use Rattle.netlist_lists.proofs.CellBytes.{cell-length, drive-length}
+use Rattle.netlist.specs.Form.{cell_bytes, drive_bytes}
+use Rattle.netlist.specs.declared.Drive.{Drive}
+use Rattle.netlist.specs.declared.Cell.{Cell}
+use Rattle.netlist.proofs.CellBytes.{cell-length, drive-length}
 use Rattle.verilog.specs.Answer.{module_answer}
-use Rattle.tagged.specs.Order.{number_of}
-use Rattle.tagged.specs.Refusals.{first_of}
-use Rattle.translate.specs.Answer.{translated_bytes, cell_count, translate_answer, translate_buffer}
-use Rattle.translate.proofs.TranslateAnswers.{after_check, translate-answered}
+use Rattle.translate.specs.Answer.{translate_answer, translate_buffer}
 use Rattle.translate_blocks.specs.Words.{Written}
 use Rattle.translate_blocks.specs.Writing.{Translates, write_processes}
 use Rattle.translate_blocks.specs.Ends.{start_from, start_words, drives_by}
@@ -154,7 +151,7 @@ module _ (declared widths marks firsts list out : List ℕ) {buffer left : List 
       go false t p = absurd (let z : ◌≡◌ {A = ℕ} 0 1 = cc in omega arith)
 
   pub over-cells : (made : CellsMade) → made ≡ made_cells count → made ≡ CellsMade.Refused → Kept (Translation.Refused Rule.Cells 0) out
-  unfolding pass_answer pass_buffer first_of number_of
+  unfolding pass_answer pass_buffer
   over-cells made e refused =
       let many : most_cells < length (passed_cells widths list) = omega (arith, cells_over made e refused, measured.counted) in
       record { answered = rw (lt-ltb most_cells (length (passed_cells widths list)) many); leaves = rw (lt-ltb most_cells (length (passed_cells widths list)) many) }
@@ -164,7 +161,7 @@ module _ (declared widths marks firsts list out : List ℕ) {buffer left : List 
     few-cells = omega (arith, cells-within made good e let_through, measured.counted)
 
     pub over-room : length out < at → Kept (Translation.Refused Rule.Buffer 0) out
-    unfolding pass_answer pass_buffer first_of number_of
+    unfolding pass_answer pass_buffer
     over-room short =
         let long : length out < length_of declared widths marks firsts list = omega (arith, measured.wrote.past) in
         record {
@@ -174,7 +171,7 @@ module _ (declared widths marks firsts list out : List ℕ) {buffer left : List 
 
     pub both-passed : {held : List ℕ} {end cells : ℕ} → at ≤ length out →
         Passed out 0 (whole_of (at - 3) declared widths marks firsts list) (passed_cells widths list) held end cells → Kept (Translation.Written end cells) held
-    unfolding pass_answer pass_buffer first_of number_of
+    unfolding pass_answer pass_buffer
     both-passed {held} {end} {cells} room written =
         let size : ℕ = length_of declared widths marks firsts list in
         let whole : List ℕ = whole_of (at - 3) declared widths marks firsts list in
@@ -194,8 +191,7 @@ module _ (declared widths marks firsts list out : List ℕ) {buffer left : List 
 -- a refusal of the check is that of translating, and leaves the buffer as it was
 pub check-refused : (file out : List ℕ) {answer : Answer} {rule : Rule} {place : ℕ} → answer ≡ module_answer file → answer ≡ Answer.Refused rule place →
     Promise (translate_answer file (length out)) (translate_buffer file out) (Translation.Refused rule place) out
-unfolding translate_buffer
+unfolding translate_answer translate_buffer
 check-refused file out {rule = rule} {place} e refused =
-    let no : translate_answer file (length out) ≡ Translation.Refused rule place =
-    translate-answered file (length out) ∙ ap (λ (a : Answer). after_check a (cell_count file) (length (translated_bytes file)) (length out)) (sym e ∙ refused) in
-    record { answered = sym no; leaves = rw no }
+    let no : module_answer file ≡ Answer.Refused rule place = sym e ∙ refused in
+    record { answered = rw no; leaves = rw no }

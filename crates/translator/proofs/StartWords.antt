@@ -2,8 +2,8 @@
 use mathlib.Core.Path.{◌≡◌, refl, ap}
 use mathlib.Core.List.{List, [], ◌∷◌, ◌++◌, map}
 use Prim.Native.Nat.{ℕ, ◌+◌}
-use Rattle.declarations.specs.Declarations.{Declaration, width_of}
-use Rattle.netlist_lists.specs.declared.Operand.TheVariants as Operand
+use Rattle.tagged.specs.Declarations.{Declaration, width_of}
+use Rattle.netlist.specs.declared.Operand.TheVariants as Operand
 use Rattle.translate.specs.Tables.{themselves}
 use Rattle.translate_blocks.specs.Words.{packed}
 use Rattle.translate_blocks.specs.Ends.{start_from, start_words}

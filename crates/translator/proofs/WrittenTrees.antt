@@ -7,18 +7,17 @@ use Prim.Native.Nat.{ℕ, zero, suc, ◌+◌, ◌^◌, ◌≤◌, ◌<◌}
 use native.Mathlib.Omega.{arith}
 use lib.ListN.{length, length-append}
 use Rattle.words.specs.declared.TwoOperand.TheVariants as two-operand
-use Rattle.tagged.specs.Limits.{process_levels, statement_levels}
 use Rattle.tagged.specs.Sorts.{tag_of}
 use Rattle.tagged.specs.Fields.{field_bytes, all_bytes_of, fields_at}
-use Rattle.declarations.specs.Declarations.{Declaration, register_at}
+use Rattle.tagged.specs.Declarations.{Declaration, register_at}
 use Rattle.tagged.specs.declared.sorts.StatementSort.TheVariants as StatementSort
 use Rattle.tagged.specs.declared.sorts.Sort.TheVariants as Sort
 use Rattle.tagged.proofs.SortLaws.{is-itself}
 use Rattle.tagged.proofs.ListBytes.{field-length}
-use Rattle.netlist_lists.specs.declared.Operand.{Operand}
-use Rattle.netlist_lists.specs.declared.Operand.TheVariants as Operand
-use Rattle.netlist_lists.specs.declared.Cell.{Cell}
-use Rattle.netlist_lists.specs.declared.Cell.TheVariants as Cell
+use Rattle.netlist.specs.declared.Operand.{Operand}
+use Rattle.netlist.specs.declared.Operand.TheVariants as Operand
+use Rattle.netlist.specs.declared.Cell.{Cell}
+use Rattle.netlist.specs.declared.Cell.TheVariants as Cell
 use Rattle.verilog.specs.Tree.{Statement, Block, Items}
 use Rattle.verilog.specs.Form.{expression_bytes, statement_field, statement_bytes, block_payload, items_bytes, block_bytes, process_bytes}
 use Rattle.verilog.specs.Reading.{after_front}
@@ -157,7 +156,7 @@ module _ (ds : List Declaration) (count : ℕ) (counted : length ds ≡ count) w
         (items_give later-typed fits.3 (suc d) (omega arith) (omega arith) f next selector (omega arith) place)
 
   -- a process, then the list of them
-  process-gives : {b : Block} {t : Tables} → TypedBlock ds b → FitsBlock b → suc (statements_depth b) ≤ process_levels → length (process_bytes b) ≤ longest_field →
+  process-gives : {b : Block} {t : Tables} → TypedBlock ds b → FitsBlock b → suc (statements_depth b) ≤ 31 → length (process_bytes b) ≤ longest_field →
       FitsTables count t → (n : ℕ) → n + length (translate_block t n b).cells ≤ 2 ^ 32 →
       Leads count (write_process count) (process_bytes b) (table_words t) n (translate_block t n b)
   unfolding process_bytes write_process
@@ -168,10 +167,10 @@ module _ (ds : List Declaration) (count : ℕ) (counted : length ds ≡ count) w
         payload = block_payload b;
         field = refl;
         short = short;
-        gives = rw (is-itself Sort.Process) (statements-give typed fits statement_levels (omega arith) (omega arith) f n h 0);
+        gives = rw (is-itself Sort.Process) (statements-give typed fits 30 (omega arith) (omega arith) f n h 0);
       }
 
-  processes-give : {ps : List Block} {t : Tables} → TypedAll ds ps → All FitsBlock ps → processes_depth ps ≤ process_levels → length (all_bytes_of process_bytes ps) ≤ longest_field →
+  processes-give : {ps : List Block} {t : Tables} → TypedAll ds ps → All FitsBlock ps → processes_depth ps ≤ 31 → length (all_bytes_of process_bytes ps) ≤ longest_field →
       FitsTables count t → (n : ℕ) → n + length (translate_all t n ps).cells ≤ 2 ^ 32 → (base : ℕ) →
       Gives count (write_all (write_process count) (fields_at base (all_bytes_of process_bytes ps)) (table_words t) n) (translate_all t n ps)
   unfolding translate_all All processes_depth all_bytes_of
@@ -186,7 +185,7 @@ module _ (ds : List Declaration) (count : ℕ) (counted : length ds ≡ count) w
       (λ place. processes-give rest_Typed fits.1 (omega arith) (omega arith) first.gives.fits next (omega arith) place) base
 
 -- the processes of a module that is typed, and within the limits of its tagged form
-pub processes-written : (ds : List Declaration) (count : ℕ) → length ds ≡ count → (ps : List Block) → TypedAll ds ps → All FitsBlock ps → processes_depth ps ≤ process_levels →
+pub processes-written : (ds : List Declaration) (count : ℕ) → length ds ≡ count → (ps : List Block) → TypedAll ds ps → All FitsBlock ps → processes_depth ps ≤ 31 →
     length (all_bytes_of process_bytes ps) ≤ longest_field → (t : Tables) → FitsTables count t → (n : ℕ) → n + length (translate_all t n ps).cells ≤ 2 ^ 32 →
     Gives count (write_processes count (all_bytes_of process_bytes ps) (table_words t) n) (translate_all t n ps)
 unfolding write_processes

@@ -2,12 +2,12 @@
 -- the last call left.
 use Rattle.std.specs.Prelude.{◌≡◌, List, [], ◌∷◌, ℕ, ◌*◌, length}
 use Rattle.tagged.specs.Answers.{Promise}
-use Rattle.declarations.specs.Declarations.{Declaration}
-use Rattle.declarations.specs.Rows.{row_bytes, row_numbers}
-use Rattle.declarations.specs.Cycles.{with_inputs}
+use Rattle.tagged.specs.Declarations.{Declaration}
+use Rattle.tagged.specs.Rows.{row_bytes, row_numbers}
+use Rattle.tagged.specs.Cycles.{with_inputs}
 use Rattle.tagged.specs.declared.answers.Answer.{Answer}
 use Rattle.tagged.specs.declared.answers.Translation.{Translation}
-use Rattle.netlist_lists.specs.Run as netlist-run
+use Rattle.netlist.specs.Run as netlist-run
 use Rattle.verilog.specs.Run as module-run
 use Rattle.translate.specs.Answer.{translate_answer, translate_buffer}
 

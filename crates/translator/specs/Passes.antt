@@ -6,12 +6,11 @@ use Rattle.tagged.specs.Bytes.{two_bytes, Wrote}
 use Rattle.tagged.specs.Sorts.{tag_of}
 use Rattle.tagged.specs.Fields.{all_bytes_of}
 use Rattle.tagged.specs.declared.sorts.Sort.TheVariants as Sort
-use Rattle.tagged.specs.Refusals.{for_rule, first_refusal}
-use Rattle.tagged.specs.declared.answers.Found.TheVariants as Found
+use Rattle.tagged.specs.declared.answers.Answer.TheVariants as Answer
 use Rattle.tagged.specs.declared.answers.Translation.{Translation}
-use Rattle.netlist_lists.specs.Form.{cell_bytes, drive_bytes}
-use Rattle.netlist_lists.specs.declared.Cell.{Cell}
-use Rattle.translate.specs.Answer.{size_rules, as_translation, buffer_after}
+use Rattle.netlist.specs.Form.{cell_bytes, drive_bytes}
+use Rattle.netlist.specs.declared.Cell.{Cell}
+use Rattle.translate.specs.Answer.{after_check, buffer_after}
 use Rattle.translate_blocks.specs.Words.{Written}
 use Rattle.translate_blocks.specs.Writing.{write_processes}
 use Rattle.translate_blocks.specs.Ends.{start_words, drives_by}
@@ -50,9 +49,7 @@ module _ (declared widths marks firsts list : List ℕ) where
 
   -- refusal 12, then 13, else the length and the count
   unfoldable pub pass_answer : ℕ → Translation
-  pass_answer room =
-      let cells : ℕ = length (passed_cells widths list) in
-      as_translation (first_refusal (for_rule Found.Nowhere (size_rules cells length_of room))) length_of cells
+  pass_answer room = after_check Answer.Accepted (length (passed_cells widths list)) length_of room
 
   -- the whole with its own length in the header, if nothing was refused
   unfoldable pub pass_buffer : List ℕ → List ℕ

@@ -8,10 +8,9 @@ ghost use Rattle.verilog.specs.Answer.{module_answer};
 ghost use Rattle.translate.specs.Answer.{translate_answer, translate_buffer, largest_netlist};
 
 use crate::passes::measure_and_write;
-use declarations::form::declared_bytes;
-use declarations::table::variable_table;
 use tagged::answers::{Answer, Translation};
 use tagged::bytes::{from, front};
+use tagged::declarations::{declared_bytes, variable_table};
 use tagged::limits::Variables;
 use verilog_check::check;
 use verilog_check::survey::survey;

@@ -4,7 +4,7 @@ ghost use Rattle.tagged.specs.Limits.{most_variables, longest_module};
 ghost use Rattle.tagged.specs.Answers.{Promise};
 ghost use Rattle.translator.specs.Passes.{Passed, LogRoom, rest_of, whole_of, passed_cells, pass_answer, pass_buffer};
 
-use netlist_lists::write::{put_head, put_part};
+use netlist::write::{put_head, put_part};
 use tagged::answers::{Rule, Translation};
 use tagged::limits::{Cells, CellsMade, ModuleFile, Variables};
 use translate_blocks::blocks::processes;

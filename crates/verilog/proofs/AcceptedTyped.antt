@@ -10,7 +10,7 @@ use lib.ListN.{length}
 use borrow.Author.Tests.{eqb-true, leb-false, not-false}
 use Rattle.words.specs.Widths.{is_width, fits_width, index_within}
 use Rattle.tagged.specs.Fields.{Placed, unplaced, all_bytes_of}
-use Rattle.declarations.specs.Declarations.{Declaration, input, register, width_of, variable_width, register_at, declaration_bytes, value_broken}
+use Rattle.tagged.specs.Declarations.{Declaration, input, register, width_of, variable_width, register_at, declaration_bytes, value_broken}
 use Rattle.tagged.specs.declared.answers.Rule.{Rule}
 use Rattle.tagged.specs.declared.answers.Rule.TheVariants as Rule
 use Rattle.tagged.specs.declared.answers.Answer.{Answer}
@@ -18,13 +18,12 @@ use Rattle.tagged.specs.declared.answers.Answer.TheVariants as Answer
 use Rattle.verilog.specs.Tree.{Expression, constant, variable, fixed_bit, chosen_bit, one, two, Statement, assign, assign_bit, if_else, case, Block, end, ◌then◌, Items, default, item, Module}
 use Rattle.verilog.specs.Form.{expression_bytes, statement_bytes, block_payload, process_bytes}
 use Rattle.verilog.specs.Nodes.{Node, past, expression_nodes, statement_nodes, block_nodes, items_nodes, process_nodes, declaration_nodes, module_nodes}
-use Rattle.verilog.specs.Rules.{expression_width, breaks, module_broken, module_tests}
-use Rattle.verilog.specs.Answer.{tree_answer}
+use Rattle.verilog.specs.Rules.{expression_width, breaks, module_broken}
+use Rattle.verilog.specs.Answer.{tree_answer, module_rules}
 use Rattle.verilog.proofs.Typed.{Typed, constant-fits, variable-there, bit-inside, index-inside, one_typed, two_typed, TypedStatement, assign-typed, assign_bit-typed, if_else-typed, case-typed, TypedBlock, end-typed, then_typed, TypedItems, default-typed, item-typed, TypedAll, none-typed, more-typed, WidthsFit, no-widths, more-widths, TypedModule}
 use Rattle.tagged.proofs.TestLaws.{neither}
-use Rattle.tagged.proofs.RefusalLaws.{nowhere-passes, accepted-each}
+use Rattle.tagged.proofs.RefusalLaws.{nowhere-passes, NoneBroken, more, accepted-none}
 use Rattle.tagged.proofs.PlaceLaws.{placed-stands}
-use Rattle.tagged.specs.Order.{number_of}
 
 -- a field that breaks none of the four rules; the fields before it and all of them do not matter
 pub record Fine (ds : List Declaration) (n : Node) : Type 0 where
@@ -48,7 +47,7 @@ module _ {ds : List Declaration} where
   fine-split a {b} h = (λ n m. h n (Memᴰ.append_left b m), λ n m. h n (Memᴰ.append_right a m))
 
 pub fine-expression-typed : {ds : List Declaration} (e : Expression) (p at : ℕ) → AllFine ds (expression_nodes p at e) → Typed ds e
-unfolding expression_nodes module_tests number_of
+unfolding expression_nodes breaks
 fine-expression-typed (constant w v) p at h =
     let both = neither (not (is_width w)) (not (fits_width w v)) (fine-first h).value in
     constant-fits (not-false (is_width w) both.0) (not-false (fits_width w v) both.1)
@@ -65,7 +64,7 @@ fine-expression-typed {ds} (two op a b) p at h =
     (eqb-true (expression_width ds a) (expression_width ds b) (not-false (eqb (expression_width ds a) (expression_width ds b)) (fine-first h).widths))
 
 mutual
-  unfolding statement_nodes block_nodes items_nodes module_tests number_of
+  unfolding statement_nodes block_nodes items_nodes breaks
 
   pub fine-statement-typed : {ds : List Declaration} (s : Statement) (p at : ℕ) → AllFine ds (statement_nodes p at s) → TypedStatement ds s
   fine-statement-typed {ds} (assign kind v e) p at h =
@@ -113,19 +112,28 @@ fine-width (input w name) e = not-false (is_width w) e
 fine-width (register w initial name) e = not-false (is_width w) (neither (not (is_width w)) (not (fits_width w initial)) e).0
 
 pub fine-declarations-fit : {ds : List Declaration} (l : List Declaration) (at : ℕ) → AllFine ds (declaration_nodes at l) → WidthsFit l
-unfolding declaration_nodes module_tests number_of
+unfolding declaration_nodes breaks
 fine-declarations-fit [] at h = no-widths
 fine-declarations-fit (d ∷ l) at h =
     more-widths (fine-width d (fine-first h).value) (fine-declarations-fit l (at + length (declaration_bytes d)) (fine-rest h))
 
 -- no rule has a place in a module that is accepted, so each field passes after those before it
 pub accepted-fine : (base : ℕ) (m : Module) → tree_answer base m ≡ Answer.Accepted → AllFine m.declarations (module_nodes base m)
-unfolding tree_answer module_broken module_tests number_of
-accepted-fine base m e n i =
-    let s = placed-stands (module_nodes base m) i in
-    let passes : (rule : Rule) → breaks m.declarations (unplaced (module_nodes base m)) rule s.0 n.what ≡ false =
-    λ rule. nowhere-passes (breaks m.declarations (unplaced (module_nodes base m)) rule) [] s.1 (accepted-each (module_broken base m) e rule) in
-    record { value = passes Rule.Value; reference = passes Rule.Reference; widths = passes Rule.Widths; bit_number = passes Rule.BitNumber }
+unfolding tree_answer module_broken breaks
+accepted-fine base m e = go (accepted-none (module_broken base m) module_rules e)
+  where
+    test : Rule → List Node → Node → Bool
+    test = breaks m.declarations (unplaced (module_nodes base m))
+
+    go : NoneBroken (module_broken base m) module_rules → AllFine m.declarations (module_nodes base m)
+    go (more value (more name (more count (more reference (more widths (more bits others)))))) n i =
+        let s = placed-stands (module_nodes base m) i in
+        record {
+          value = nowhere-passes (test Rule.Value) [] s.1 value;
+          reference = nowhere-passes (test Rule.Reference) [] s.1 reference;
+          widths = nowhere-passes (test Rule.Widths) [] s.1 widths;
+          bit_number = nowhere-passes (test Rule.BitNumber) [] s.1 bits;
+        }
 
 pub accepted-typed : (base : ℕ) (m : Module) → tree_answer base m ≡ Answer.Accepted → TypedModule m
 unfolding module_nodes

@@ -1,5 +1,5 @@
 -- The relation `Breaks`, in the words of document 01, holds of a place exactly when the test `breaks` is true of the field that stands there.
--- By the constructors one way, rule by rule and by the field's shape the other (declarations by DeclarationTests); "earlier" and "at a smaller place" agree, since places rise.
+-- By the constructors one way, by the rule and the field's shape the other (declarations by DeclarationTests); "earlier" and "at a smaller place" agree, since places rise.
 use mathlib.Core.Path.{◌≡◌, refl, sym, ap}
 use mathlib.Core.Bool.{Bool, true, false, ◌&&◌, not, false≢true, true≢false, and-eq-true_iff}
 use mathlib.Core.List.{List, [], ◌∷◌, Memᴰ}
@@ -13,28 +13,25 @@ use Rattle.words.specs.Widths.{is_width, fits_width, index_within}
 use Rattle.tagged.specs.Limits.{most_processes}
 use Rattle.tagged.specs.Fields.{unplaced}
 use Rattle.tagged.specs.Stands.{Stands}
-use Rattle.declarations.specs.Declarations.{Declaration, input, register, is_register, register_at, variable_width, declaration_tests}
-use Rattle.declarations.specs.Declarations.{value_broken, name_broken, count_broken, declaration_breaks}
+use Rattle.tagged.specs.Declarations.{Declaration, input, register, is_register, register_at, variable_width}
+use Rattle.tagged.specs.Declarations.{value_broken, name_broken, count_broken, declaration_breaks}
 use Rattle.tagged.specs.declared.sorts.Kind.{Kind}
 use Rattle.tagged.specs.declared.sorts.Kind.TheVariants as Kind
 use Rattle.tagged.specs.declared.answers.Rule.{Rule}
 use Rattle.tagged.specs.declared.answers.Rule.TheVariants as Rule
-use Rattle.tagged.specs.Refusals.{Test, never}
-use Rattle.tagged.proofs.OrderLaws.{no_more, and-for, for-each}
 use Rattle.tagged.proofs.TestLaws.{or_left, or_right, or_cases, unlike, unlike-ne}
-use Rattle.declarations.proofs.DeclarationTests.{no-width, width-no, not-fits, fits_not, phrase-tested, tested-phrase}
+use Rattle.tagged.proofs.DeclarationTests.{no-width, width-no, not-fits, fits_not, phrase-tested, tested-phrase}
 use Rattle.tagged.proofs.RiseLaws.{before-earlier, earlier-before, stands-in, in-stands}
 use Rattle.verilog.specs.Tree.{Expression, constant, variable, fixed_bit, chosen_bit, one, two, Statement, assign, assign_bit, if_else, case, Module}
 use Rattle.verilog.specs.Nodes.{What, declaration, process, expression, statement, item_of, Node, module_nodes}
-use Rattle.verilog.specs.Rules.{expression_width, declarations_of, count_processes, some_node, module_tests}
-use Rattle.verilog.specs.Rules.{assigns_by, reads_by, by_field, is_assignment, is_read, is_blocking, same_kind}
+use Rattle.verilog.specs.Rules.{expression_width, declarations_of, count_processes, some_node}
+use Rattle.verilog.specs.Rules.{assigns_by, reads_by, by_field, is_assignment, is_blocking, same_kind}
 use Rattle.verilog.specs.Rules.{constant_broken, missing_variable, operands_differ, statement_differs, read_outside, write_outside, breaks}
 use Rattle.verilog.specs.Breaks.{FieldAt, Declares, number-zero, number_more, Reads, reads_whole, reads-fixed, reads-chosen, Assigns, assigns-whole, assigns-bit}
 use Rattle.verilog.specs.Breaks.{Breaks, declared, constant-width, constant-value, process-over, read-missing, assigned-missing, assigned-input}
 use Rattle.verilog.specs.Breaks.{value-target, both-operands, item-selector, condition-wide, bit-value-wide}
 use Rattle.verilog.specs.Breaks.{bit-read, bit-assigned, index-wide, both-kinds, two-processes, read-elsewhere}
 use Rattle.verilog.proofs.RisingPlaces.{earlier-smaller-place}
-use Rattle.tagged.specs.Order.{number_of}
 
 -- 6
 declares-register : {ds : List Declaration} {v : ℕ} {d : Declaration} → Declares ds v d → register_at ds v ≡ is_register d
@@ -206,7 +203,7 @@ module _ (m : Module) where
   -- from the test to the relation, rule by rule
   module _ (p i : ℕ) where
     value-breaks : (w : What) → FieldAt m p i w → by_field value_broken false constant_broken (λ s. false) (λ e w. false) w ≡ true → Breaks m Rule.Value p
-    unfolding declaration_tests number_of
+    unfolding declaration_breaks
     value-breaks (declaration d) f e = declared f (tested-phrase Rule.Value (declarations_of f.before) d e)
     value-breaks process f e = absurd (false≢true e)
     value-breaks (expression (constant w v)) f e =
@@ -221,7 +218,7 @@ module _ (m : Module) where
 
     name-breaks : (w : What) (f : FieldAt m p i w) → by_field (name_broken (declarations_of f.before)) false (λ e. false) (λ s. false) (λ e w. false) w ≡ true →
         Breaks m Rule.Name p
-    unfolding declaration_tests number_of
+    unfolding declaration_breaks
     name-breaks (declaration d) f e = declared f (tested-phrase Rule.Name (declarations_of f.before) d e)
     name-breaks process f e = absurd (false≢true e)
     name-breaks (expression x) f e = absurd (false≢true e)
@@ -231,7 +228,7 @@ module _ (m : Module) where
     count-breaks : (w : What) (f : FieldAt m p i w) →
         by_field (count_broken (declarations_of f.before)) (leb most_processes (count_processes f.before)) (λ e. false) (λ s. false) (λ e w. false) w ≡ true →
         Breaks m Rule.Count p
-    unfolding declaration_tests number_of
+    unfolding declaration_breaks
     count-breaks (declaration d) f e = declared f (tested-phrase Rule.Count (declarations_of f.before) d e)
     count-breaks process f e = process-over f (leb-true most_processes (count_processes f.before) e)
     count-breaks (expression x) f e = absurd (false≢true e)
@@ -316,49 +313,39 @@ module _ (m : Module) where
       Stands (module_nodes 3 m) before p (record { in_process = n.in_process; what = w })
   seen_as n e s = rw (← e) s
 
-  -- from the test to the relation, rule by rule
-  abbrev Phrase : Rule → Test Node → Type 0
-  Phrase k test = (p : ℕ) (before : List Node) (n : Node) → Stands (module_nodes 3 m) before p n → test before n ≡ true → Breaks m k p
-
-  both-kinds-phrase : Phrase Rule.BothKinds (λ earlier n. is_assignment (λ kind v. some_node (is_assignment (λ other u. eqb u v && not (same_kind other kind))) earlier) n)
-  both-kinds-phrase p before n s e =
+  test-breaks : (k : Rule) (p : ℕ) (before : List Node) (n : Node) → Stands (module_nodes 3 m) before p n → breaks ds all k before n ≡ true → Breaks m k p
+  unfolding breaks
+  test-breaks Rule.Value p before n s e = value-breaks p n.in_process n.what (record { before = before; stands = s }) e
+  test-breaks Rule.Name p before n s e = name-breaks p n.in_process n.what (record { before = before; stands = s }) e
+  test-breaks Rule.Count p before n s e = count-breaks p n.in_process n.what (record { before = before; stands = s }) e
+  test-breaks Rule.Reference p before n s e = reference-breaks p n.in_process n.what (record { before = before; stands = s }) e
+  test-breaks Rule.Widths p before n s e = widths-breaks p n.in_process n.what (record { before = before; stands = s }) e
+  test-breaks Rule.BitNumber p before n s e = bit-breaks p n.in_process n.what (record { before = before; stands = s }) e
+  test-breaks Rule.BothKinds p before n s e =
       let test : Kind → ℕ → Bool = λ kind v. some_node (is_assignment (λ other u. eqb u v && not (same_kind other kind))) before in
       let x = assignment-is test n.what e in
       let a = assigns-by test x.0 x.2 in
       kinds-breaks p n.in_process (record { before = before; stands = seen_as n x.1 s }) a.2
       (assigned-among (λ n other u. eqb u a.1 && not (same_kind other a.0)) before a.3)
-
-  two-processes-phrase : Phrase Rule.TwoProcesses
-      (λ earlier n. is_assignment (λ kind v. some_node (λ m. is_assignment (λ other u. eqb u v && not (eqb m.in_process n.in_process)) m) earlier) n)
-  two-processes-phrase p before n s e =
+  test-breaks Rule.TwoProcesses p before n s e =
       let i : ℕ = n.in_process in
       let test : Kind → ℕ → Bool = λ kind v. some_node (λ m. is_assignment (λ other u. eqb u v && not (eqb m.in_process i)) m) before in
       let x = assignment-is test n.what e in
       let a = assigns-by test x.0 x.2 in
       processes-breaks p i (record { before = before; stands = seen_as n x.1 s }) a.2
       (assigned-among (λ n other u. eqb u a.1 && not (eqb n.in_process i)) before a.3)
-
-  read-elsewhere-phrase : Phrase Rule.ReadElsewhere
-      (λ earlier n. is_read (λ v. some_node (λ m. is_assignment (λ other u. is_blocking other && eqb u v && not (eqb m.in_process n.in_process)) m) all) n)
-  read-elsewhere-phrase p before n s e =
+  test-breaks Rule.ReadElsewhere p before n s e =
       let i : ℕ = n.in_process in
       let test : ℕ → Bool = λ v. some_node (λ m. is_assignment (λ other u. is_blocking other && eqb u v && not (eqb m.in_process i)) m) all in
       let x = read_is test n.what e in
       let r = reads-by test x.0 x.2 in
       elsewhere-breaks p i (record { before = before; stands = seen_as n x.1 s }) r.1
       (assigned-among (λ n other u. is_blocking other && eqb u r.0 && not (eqb n.in_process i)) all r.2)
-
-  test-breaks : (k : Rule) → Phrase k (breaks ds all k)
-  unfolding module_tests
-  test-breaks k = for-each Phrase never
-      (and-for (λ p before n s e. value-breaks p n.in_process n.what (record { before = before; stands = s }) e)
-      (and-for (λ p before n s e. name-breaks p n.in_process n.what (record { before = before; stands = s }) e)
-      (and-for (λ p before n s e. count-breaks p n.in_process n.what (record { before = before; stands = s }) e)
-      (and-for (λ p before n s e. reference-breaks p n.in_process n.what (record { before = before; stands = s }) e)
-      (and-for (λ p before n s e. widths-breaks p n.in_process n.what (record { before = before; stands = s }) e)
-      (and-for (λ p before n s e. bit-breaks p n.in_process n.what (record { before = before; stands = s }) e)
-      (and-for both-kinds-phrase (and-for two-processes-phrase (and-for read-elsewhere-phrase no_more))))))))) k
-      (λ other p before n s e. absurd (false≢true e))
+  test-breaks Rule.FileLength p before n s e = absurd (false≢true e)
+  test-breaks Rule.Form p before n s e = absurd (false≢true e)
+  test-breaks Rule.Cells p before n s e = absurd (false≢true e)
+  test-breaks Rule.Buffer p before n s e = absurd (false≢true e)
+  test-breaks Rule.Row p before n s e = absurd (false≢true e)
 
   -- from the relation to the test
   broken-by : (k : Rule) {p i : ℕ} {w : What} (f : FieldAt m p i w) → breaks ds all k f.before (record { in_process = i; what = w }) ≡ true → BrokenAt m k p
@@ -366,13 +353,24 @@ module _ (m : Module) where
 
   -- on a declaration, the tests of a module's field are those of the declaration, or none
   declared-test : (k : Rule) {p i : ℕ} {d : Declaration} (f : FieldAt m p i (declaration d)) → declaration_breaks k (declarations_of f.before) d ≡ true → BrokenAt m k p
-  unfolding module_tests declaration_tests number_of
-  declared-test k {p} {i} {d} f = for-each (λ k test. test (declarations_of f.before) d ≡ true → BrokenAt m k p) never
-      (and-for (λ e. broken-by Rule.Value f e) (and-for (λ e. broken-by Rule.Name f e) (and-for (λ e. broken-by Rule.Count f e) no_more))) k
-      (λ other e. absurd (false≢true e))
+  unfolding breaks declaration_breaks
+  declared-test Rule.Value f e = broken-by Rule.Value f e
+  declared-test Rule.Name f e = broken-by Rule.Name f e
+  declared-test Rule.Count f e = broken-by Rule.Count f e
+  declared-test Rule.FileLength f e = absurd (false≢true e)
+  declared-test Rule.Form f e = absurd (false≢true e)
+  declared-test Rule.Reference f e = absurd (false≢true e)
+  declared-test Rule.Widths f e = absurd (false≢true e)
+  declared-test Rule.BitNumber f e = absurd (false≢true e)
+  declared-test Rule.BothKinds f e = absurd (false≢true e)
+  declared-test Rule.TwoProcesses f e = absurd (false≢true e)
+  declared-test Rule.ReadElsewhere f e = absurd (false≢true e)
+  declared-test Rule.Cells f e = absurd (false≢true e)
+  declared-test Rule.Buffer f e = absurd (false≢true e)
+  declared-test Rule.Row f e = absurd (false≢true e)
 
   breaks-test : {k : Rule} {p : ℕ} → Breaks m k p → BrokenAt m k p
-  unfolding module_tests number_of
+  unfolding breaks
   breaks-test {k} (declared f h) = declared-test k f (phrase-tested h)
   breaks-test (constant-width {w = w} f h) = broken-by Rule.Value f (or_left (not (is_width w)) _ (no-width h))
   breaks-test (constant-value {w = w} {v = v} f h) = broken-by Rule.Value f (or_right (not (is_width w)) (not-fits w v h))

@@ -7,15 +7,15 @@ use Rattle.words.proofs.Cases.{Case, case, passes}
 use Rattle.words.specs.Bits as bits
 use Rattle.words.specs.Operators as operators
 use Rattle.words.specs.Values.{Outcome, stopped, got}
-use Rattle.tagged.specs.Order.{number_of}
+use Rattle.tagged.specs.Answers.{number_of}
 use Rattle.tagged.specs.Bytes as bytes
 use Rattle.tagged.specs.Sorts as sorts
 use Rattle.tagged.specs.Fields as fields
 use Rattle.tagged.specs.Files as files
-use Rattle.names.specs.Names as names
+use Rattle.tagged.specs.Names as names
 use Rattle.tagged.specs.Refusals as refusals
-use Rattle.declarations.specs.Declarations as declarations
-use Rattle.declarations.specs.Declarations.{input, register}
+use Rattle.tagged.specs.Declarations as declarations
+use Rattle.tagged.specs.Declarations.{input, register}
 use Rattle.tagged.specs.declared.sorts.Kind.TheVariants as Kind
 use Rattle.tagged.proofs.Cases.{answering}
 use Rattle.words.specs.declared.TwoOperand.TheVariants as two-operand
@@ -24,7 +24,7 @@ use Rattle.verilog.specs.Form as form
 use Rattle.verilog.specs.Reading as reading
 use Rattle.verilog.specs.Nodes as nodes
 use Rattle.verilog.specs.Rules as rules
-use Rattle.verilog.specs.Answer.{tree_answer, module_answer, module_file_broken}
+use Rattle.verilog.specs.Answer.{tree_answer, module_answer}
 use Rattle.verilog.specs.Cycle as cycle
 
 -- a row of small numbers as one number, and 999 for a run that stopped
@@ -105,5 +105,5 @@ table =
     ∷ []
 
 pub cases : passes table ≡ true
-unfolding table module_answer module_file_broken tree_answer number_of refusals.first_broken refusals.first_of files.file_answer files.outer_answer fields.open_of fields.field_by fields.then_by fields.fixed_then fields.ended fields.many_from fields.read_from fields.field_bytes fields.all_bytes_of bytes.number_of_two bytes.number_of_four bytes.four_of bytes.two_bytes bytes.four_bytes sorts.sort_of sorts.tag_of sorts.declaration_sort sorts.statement_sort sorts.expression_sort sorts.cell_sort names.is_name names.is_name_byte names.all_name_bytes names.same_name declarations.declaration_bytes declarations.declaration_body declarations.declarations_step declarations.declaration_read declarations.declarations_at declarations.value_broken declarations.name_taken declarations.name_broken declarations.count_broken form.module_form form.expression_body form.statement_body form.block_body form.item_body form.constant_body form.expression_bytes form.statement_bytes form.block_payload form.items_bytes form.process_bytes reading.tree_in reading.expression_in reading.statement_in reading.block_in reading.item_in nodes.expression_nodes nodes.statement_nodes nodes.block_nodes nodes.items_nodes nodes.process_nodes nodes.declaration_nodes nodes.module_nodes rules.expression_width rules.module_tests rules.module_broken cycle.evaluate cycle.execute cycle.execute_block cycle.execute_items cycle.execute_all cycle.delays cycle.delays_block cycle.delays_items cycle.delays_any cycle.settled cycle.module_cycle bits.sum operators.two_number operators.two_width operators.one_width operators.one_number
+unfolding table module_answer tree_answer number_of refusals.first_broken refusals.first_refusal files.file_answer files.outer_answer fields.open_of fields.field_by fields.then_by fields.fixed_then fields.ended fields.many_from fields.read_from fields.field_bytes fields.all_bytes_of bytes.number_of_two bytes.number_of_four bytes.four_of bytes.two_bytes bytes.four_bytes sorts.sort_of sorts.tag_of sorts.declaration_sort sorts.statement_sort sorts.expression_sort sorts.cell_sort names.is_name names.is_name_byte names.all_name_bytes names.same_name declarations.declaration_bytes declarations.declaration_body declarations.declarations_step declarations.declaration_read declarations.declarations_at declarations.value_broken declarations.name_taken declarations.name_broken declarations.count_broken form.module_form form.expression_body form.statement_body form.block_body form.item_body form.constant_body form.expression_bytes form.statement_bytes form.block_payload form.items_bytes form.process_bytes reading.tree_in reading.expression_in reading.statement_in reading.block_in reading.item_in nodes.expression_nodes nodes.statement_nodes nodes.block_nodes nodes.items_nodes nodes.process_nodes nodes.declaration_nodes nodes.module_nodes rules.expression_width rules.breaks rules.module_broken cycle.evaluate cycle.execute cycle.execute_block cycle.execute_items cycle.execute_all cycle.delays cycle.delays_block cycle.delays_items cycle.delays_any cycle.settled cycle.module_cycle bits.sum operators.two_number operators.two_width operators.one_width operators.one_number
 cases = refl

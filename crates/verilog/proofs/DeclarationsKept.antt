@@ -1,25 +1,23 @@
 -- The first place that breaks a rule in a module is that of its declarations, which are the first of its fields, or else that of its processes after them.
 -- So a module without refusal 3, 4 or 5 has declarations without it. By induction on the declarations.
 use mathlib.Core.Path.{◌≡◌, refl, sym, ap, ap₂, ◌∙◌}
-use mathlib.Core.Bool.{Bool, false, true≢false}
+use mathlib.Core.Bool.{Bool}
 use mathlib.Core.List.{List, [], ◌∷◌, ◌++◌, map, map-append}
 use Prim.Native.Nat.{ℕ, ◌+◌}
 use lib.ListN.{length}
 use Rattle.tagged.specs.Choice.{choose}
 use Rattle.tagged.specs.Fields.{unplaced, all_bytes_of, placed_by}
-use Rattle.tagged.specs.Refusals.{never, first_broken, or_else}
-use Rattle.declarations.specs.Declarations.{Declaration, declaration_bytes, declaration_breaks, declaration_broken, declaration_tests}
+use Rattle.tagged.specs.Refusals.{first_broken, or_else}
+use Rattle.tagged.specs.Declarations.{Declaration, declaration_bytes, declaration_breaks, declaration_broken}
 use Rattle.tagged.specs.declared.answers.Rule.{Rule}
 use Rattle.tagged.specs.declared.answers.Rule.TheVariants as Rule
 use Rattle.tagged.specs.declared.answers.Found.{Found}
 use Rattle.tagged.specs.declared.answers.Found.TheVariants as Found
-use Rattle.tagged.proofs.OrderLaws.{no_more, and-for, listed, for-each}
 use Rattle.tagged.proofs.RefusalLaws.{nowhere-both}
 use Rattle.tagged.proofs.FoundLaws.{found-append}
 use Rattle.verilog.specs.Tree.{Module}
 use Rattle.verilog.specs.Nodes.{declaration, Node, declaration_nodes, process_nodes, module_nodes}
-use Rattle.verilog.specs.Rules.{declarations_of, breaks, module_broken, module_tests}
-use Rattle.tagged.specs.Order.{number_of}
+use Rattle.verilog.specs.Rules.{declarations_of, breaks, module_broken}
 
 -- rules 3, 4 and 5 on declarations
 pub record DeclarationsPass (base : ℕ) (ds : List Declaration) : Type 0 where
@@ -44,11 +42,21 @@ nodes-back (d ∷ l) = ap (λ (k : List Declaration). d ∷ k) (nodes-back l)
 module _ (ds : List Declaration) (all : List Node) where
   -- the test of a declaration's field is that of the declaration
   declared-test : (rule : Rule) (earlier : List Node) (d : Declaration) → breaks ds all rule earlier (declaration_node d) ≡ declaration_breaks rule (declarations_of earlier) d
-  unfolding module_tests number_of declaration_tests
-  declared-test rule earlier d = for-each (λ k test. test earlier (declaration_node d) ≡ declaration_breaks k (declarations_of earlier) d) never {l = module_tests ds all}
-      (and-for refl (and-for refl (and-for refl (and-for refl (and-for refl (and-for refl (and-for refl (and-for refl (and-for refl no_more))))))))) rule
-      (λ other. sym (for-each (λ k test. listed (module_tests ds all) k ≡ false → test (declarations_of earlier) d ≡ false) never {l = declaration_tests}
-      (and-for (λ h. absurd (true≢false h)) (and-for (λ h. absurd (true≢false h)) (and-for (λ h. absurd (true≢false h)) no_more))) rule (λ unlisted h. refl) other))
+  unfolding breaks declaration_breaks
+  declared-test Rule.Value earlier d = refl
+  declared-test Rule.Name earlier d = refl
+  declared-test Rule.Count earlier d = refl
+  declared-test Rule.Reference earlier d = refl
+  declared-test Rule.Widths earlier d = refl
+  declared-test Rule.BitNumber earlier d = refl
+  declared-test Rule.BothKinds earlier d = refl
+  declared-test Rule.TwoProcesses earlier d = refl
+  declared-test Rule.ReadElsewhere earlier d = refl
+  declared-test Rule.FileLength earlier d = refl
+  declared-test Rule.Form earlier d = refl
+  declared-test Rule.Cells earlier d = refl
+  declared-test Rule.Buffer earlier d = refl
+  declared-test Rule.Row earlier d = refl
 
   -- so the first place among their fields is the first among them
   declared-found : (rule : Rule) (before : List Declaration) (at : ℕ) (l : List Declaration) →

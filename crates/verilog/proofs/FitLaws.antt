@@ -8,7 +8,7 @@ use native.Mathlib.Omega.{arith}
 use lib.ListN.{get_or, set}
 use borrow.Author.Tests.{ltb-true, lt-ltb}
 use Rattle.words.specs.Widths.{fits_width}
-use Rattle.declarations.specs.Rows.{all_fit}
+use Rattle.tagged.specs.Rows.{all_fit}
 
 pub data Fits : List ℕ → List ℕ → Type 0 where
   none-fit : Fits [] []

@@ -7,12 +7,12 @@ use Prim.Native.Nat.{ℕ, zero, suc, ◌+◌, ◌^◌, ◌≤◌, ◌<◌}
 use native.Mathlib.Omega.{arith}
 use lib.Dec.{lit<}
 use lib.ListN.{get_or, drop}
-use Rattle.tagged.specs.Limits.{longest_module, process_levels, statement_levels}
+use Rattle.tagged.specs.Limits.{longest_module}
 use Rattle.tagged.specs.Bytes.{AllBytes, four_of}
 use Rattle.tagged.specs.Sorts.{is_statement, is_sort, is_declaration}
 use Rattle.tagged.specs.Fields.{Judge, field_by, then_by, ended, many, until_end, read_placed, unplaced}
 use Rattle.tagged.specs.Files.{file_answer}
-use Rattle.declarations.specs.Declarations.{Declaration, input, declaration_body, declaration_in, declaration_read, declarations_step, declarations_at, declarations_in, after_declarations}
+use Rattle.tagged.specs.Declarations.{Declaration, input, declaration_body, declaration_in, declaration_read, declarations_step, declarations_at, declarations_in, after_declarations}
 use Rattle.tagged.specs.declared.sorts.DeclarationSort.{DeclarationSort}
 use Rattle.tagged.specs.declared.sorts.DeclarationSort.TheVariants as DeclarationSort
 use Rattle.tagged.specs.declared.sorts.StatementSort.{StatementSort}
@@ -29,8 +29,8 @@ use Rattle.tagged.specs.declared.answers.Answer.{Answer}
 use Rattle.tagged.specs.declared.answers.Answer.TheVariants as Answer
 use Rattle.tagged.proofs.ByteLaws.{bytes_drop, four-lt}
 use Rattle.tagged.proofs.FileLaws.{file-fits}
-use Rattle.declarations.proofs.DeclarationLaws.{declaration-sort, other-sort}
-use Rattle.declarations.proofs.DeclarationBytes.{after-declared}
+use Rattle.tagged.proofs.DeclarationLaws.{declaration-sort, other-sort}
+use Rattle.tagged.proofs.DeclarationBytes.{after-declared}
 use Rattle.verilog.specs.Tree.{Expression, Statement, Block, end, Items}
 use Rattle.verilog.specs.Form.{expression_body, expression_parts, constant_body, statement_parts, statement_body, block_body, item_body, process_body, module_form}
 use Rattle.verilog.specs.Reading.{no_expression, front_by, after_front, block_front, expression_with, expression_in, block_from, ReadItem, items_from, after_items, statement_with, statement_in, block_in, item_in, tree_in, module_in}
@@ -258,17 +258,17 @@ declarations-within base owner l m h e = many-holds declaration_body declaration
 
 -- the whole module
 
-process-within : Holds (process_body process_levels) (λ s p. block_in process_levels p) (BlockWithin process_levels)
+process-within : Holds (process_body 31) (λ s p. block_in 31 p) (BlockWithin 31)
 process-within base s l h fine =
-    let c = sort-fine Sort.Process s (until_end (field_by (statement_body statement_levels)) (base + 3) base l) base fine in
-    statements-within statement_levels (level-within statement_levels) (base + 3) base l h c.1
+    let c = sort-fine Sort.Process s (until_end (field_by (statement_body 30)) (base + 3) base l) base fine in
+    statements-within 30 (level-within 30) (base + 3) base l h c.1
 
-blocks-fit : (l : List Block) → All (BlockWithin process_levels) l → All FitsBlock l
+blocks-fit : (l : List Block) → All (BlockWithin 31) l → All FitsBlock l
 unfolding All
 blocks-fit [] all = tt
 blocks-fit (b ∷ l) all = (all.0.fits, blocks-fit l all.1)
 
-blocks-deep : (l : List Block) → All (BlockWithin process_levels) l → processes_depth l ≤ process_levels
+blocks-deep : (l : List Block) → All (BlockWithin 31) l → processes_depth l ≤ 31
 unfolding All processes_depth
 blocks-deep [] all = omega arith
 blocks-deep (b ∷ l) all = let here = all.0.deep in omega (arith, blocks-deep l all.1)
@@ -284,18 +284,18 @@ unfolding tree_in module_depth
 form-fits file h accepted m e =
     let l = drop 3 file in
     let all = bytes_drop 3 file h in
-    let t = then-tells declarations_step (until_end (field_by (process_body process_levels))) 3 0 l (form-opened file h accepted m e).fine in
-    let left : All (BlockWithin process_levels) (unplaced (read_placed (is_sort Sort.Process) (λ s p. block_in process_levels p) 0 (drop t.size l))) =
-    until-holds (process_body process_levels) (λ s p. block_in process_levels p) (BlockWithin process_levels) process-within (is_sort Sort.Process) (λ b s p k f. (process-returns statement_levels b s p k f).is)
+    let t = then-tells declarations_step (until_end (field_by (process_body 31))) 3 0 l (form-opened file h accepted m e).fine in
+    let left : All (BlockWithin 31) (unplaced (read_placed (is_sort Sort.Process) (λ s p. block_in 31 p) 0 (drop t.size l))) =
+    until-holds (process_body 31) (λ s p. block_in 31 p) (BlockWithin 31) process-within (is_sort Sort.Process) (λ b s p k f. (process-returns 30 b s p k f).is)
     (3 + t.size) 0 (drop t.size l) (bytes_drop t.size l all) t.rest in
-    let processes : All (BlockWithin process_levels) (unplaced (read_placed (is_sort Sort.Process) (λ s p. block_in process_levels p) 0 (after_declarations l))) =
-    subst (λ (x : List ℕ). All (BlockWithin process_levels) (unplaced (read_placed (is_sort Sort.Process) (λ s p. block_in process_levels p) 0 x)))
+    let processes : All (BlockWithin 31) (unplaced (read_placed (is_sort Sort.Process) (λ s p. block_in 31 p) 0 (after_declarations l))) =
+    subst (λ (x : List ℕ). All (BlockWithin 31) (unplaced (read_placed (is_sort Sort.Process) (λ s p. block_in 31 p) 0 x)))
     (sym (after-declared 3 0 l t.size t.passed)) left in
     let first = shallow (declarations_in l) in
-    let second = blocks-deep (unplaced (read_placed (is_sort Sort.Process) (λ s p. block_in process_levels p) 0 (after_declarations l))) processes in
+    let second = blocks-deep (unplaced (read_placed (is_sort Sort.Process) (λ s p. block_in 31 p) 0 (after_declarations l))) processes in
     record {
       declarations = declarations-within 3 0 l t.size all t.passed;
-      processes = blocks-fit (unplaced (read_placed (is_sort Sort.Process) (λ s p. block_in process_levels p) 0 (after_declarations l))) processes;
+      processes = blocks-fit (unplaced (read_placed (is_sort Sort.Process) (λ s p. block_in 31 p) 0 (after_declarations l))) processes;
       deep = omega arith;
       long = rw (form-written file h accepted m e) at (file-fits longest_module file accepted).short;
     }

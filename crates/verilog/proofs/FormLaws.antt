@@ -13,7 +13,7 @@ use types.Run.{OneOf, miss}
 use denote.Enum.Declared as enums
 use Rattle.tagged.specs.Sorts.{sort_of, on_expression, on_statement, is_sort}
 use Rattle.tagged.specs.Fields.{Stepper, field_by, then_by, fixed_then, ended, further, many, any_sort, until_end}
-use Rattle.declarations.specs.Declarations.{declarations_step}
+use Rattle.tagged.specs.Declarations.{declarations_step}
 use Rattle.tagged.specs.declared.sorts.ExpressionSort.{ExpressionSort}
 use Rattle.tagged.specs.declared.sorts.ExpressionSort.TheVariants as ExpressionSort
 use Rattle.tagged.specs.declared.sorts.StatementSort.{StatementSort}

@@ -20,7 +20,6 @@ pub mod FitLaws
 pub mod NeverStops
 pub mod AcceptedTyped
 pub mod RisingPlaces
-pub mod FileAnswers
 pub mod BreaksLaws
 pub mod RefusedExactly
 pub mod DeclarationsKept

@@ -8,12 +8,12 @@ use native.Mathlib.Omega.{arith}
 use lib.ListN.{length, get_or, take, drop, length-append, length-drop, take-append-drop}
 use lib.Seq.{take_all, drop_at, length-take-le}
 use borrow.Author.Tests.{eqb-true, eq-eqb, le-leb}
-use Rattle.tagged.specs.Limits.{deepest, shortest_file, longest_module, process_levels, statement_levels}
+use Rattle.tagged.specs.Limits.{deepest, shortest_file, longest_module}
 use Rattle.tagged.specs.Bytes.{AllBytes, two_bytes}
 use Rattle.tagged.specs.Sorts.{sort_of, tag_of, is_declaration, is_sort}
 use Rattle.tagged.specs.Fields.{field_bytes, all_bytes_of, size_of, field_by, then_by, until_end, passed_bytes, read_placed, unplaced, placed_by}
 use Rattle.tagged.specs.Files.{file_answer, outer_answer}
-use Rattle.declarations.specs.Declarations.{Declaration, sort_of_declaration, declaration_payload, declaration_bytes, declaration_body, declarations_step, declaration_read, declarations_at, declarations_in, after_declarations}
+use Rattle.tagged.specs.Declarations.{Declaration, sort_of_declaration, declaration_payload, declaration_bytes, declaration_body, declarations_step, declaration_read, declarations_at, declarations_in, after_declarations}
 use Rattle.tagged.specs.declared.sorts.Sort.{Sort}
 use Rattle.tagged.specs.declared.sorts.Sort.TheVariants as Sort
 use Rattle.tagged.specs.declared.fields.Judged.{Judged}
@@ -26,7 +26,7 @@ use Rattle.tagged.proofs.ByteLaws.{bytes_drop}
 use Rattle.tagged.proofs.SortLaws.{tag_back}
 use Rattle.tagged.proofs.FieldLaws.{Whole, field-passed}
 use Rattle.tagged.proofs.ListBytes.{whole-bytes, field-whole, field-length, placed-unplaced, Stops, Stands, Each, none, more}
-use Rattle.declarations.proofs.DeclarationBytes.{after-declared, declarations-anywhere, declarations-read, Writable, writable-stands, declarations-pass, declarations-placed}
+use Rattle.tagged.proofs.DeclarationBytes.{after-declared, declarations-anywhere, declarations-read, Writable, writable-stands, declarations-pass, declarations-placed}
 use Rattle.verilog.specs.Tree.{Block, Module}
 use Rattle.verilog.specs.Form.{block_payload, process_bytes, module_payload, module_bytes, statement_body, process_body, module_body, module_form}
 use Rattle.verilog.specs.Reading.{block_in, tree_in, module_in}
@@ -58,19 +58,19 @@ pub record PayloadRead (base : ℕ) (l : List ℕ) : Type 0 where
   pub processes : after_declarations l ≡ all_bytes_of process_bytes (tree_in l).processes
   pub written : module_payload (tree_in l) ≡ l
 
-payload-returns : (base owner : ℕ) (l : List ℕ) → AllBytes l → then_by declarations_step (until_end (field_by (process_body process_levels))) base owner l ≡ Judged.Fine →
+payload-returns : (base owner : ℕ) (l : List ℕ) → AllBytes l → then_by declarations_step (until_end (field_by (process_body 31))) base owner l ≡ Judged.Fine →
     PayloadRead base l
 unfolding module_payload tree_in
 payload-returns base owner l h fine =
-    let t = then-tells declarations_step (until_end (field_by (process_body process_levels))) base owner l fine in
+    let t = then-tells declarations_step (until_end (field_by (process_body 31))) base owner l fine in
     let m = t.size in
     let declared = declarations-read base owner l m h t.passed in
     let passed : passed_bytes (declarations_step 0 0 l) ≡ m = ap passed_bytes (declarations-anywhere base owner l m t.passed) in
     let after : after_declarations l ≡ drop m l = after-declared base owner l m t.passed in
-    let returned = until-returns (is_sort Sort.Process) (process_body process_levels) (λ s p. block_in process_levels p) process_bytes process-known (process-returns statement_levels) (base + m) owner
+    let returned = until-returns (is_sort Sort.Process) (process_body 31) (λ s p. block_in 31 p) process_bytes process-known (process-returns 30) (base + m) owner
     (drop m l) (bytes_drop m l h) t.rest in
-    let processes : all_bytes_of process_bytes (list_in (is_sort Sort.Process) (process_body process_levels) (λ s p. block_in process_levels p) process_bytes (after_declarations l)) ≡ drop m l =
-    ap (λ (x : List ℕ). all_bytes_of process_bytes (list_in (is_sort Sort.Process) (process_body process_levels) (λ s p. block_in process_levels p) process_bytes x)) after ∙ returned in
+    let processes : all_bytes_of process_bytes (list_in (is_sort Sort.Process) (process_body 31) (λ s p. block_in 31 p) process_bytes (after_declarations l)) ≡ drop m l =
+    ap (λ (x : List ℕ). all_bytes_of process_bytes (list_in (is_sort Sort.Process) (process_body 31) (λ s p. block_in 31 p) process_bytes x)) after ∙ returned in
     record {
       places = declared.places;
       declared = passed ∙ sym (length-take-le m l declared.within) ∙ ap length declared.written;
@@ -88,7 +88,7 @@ module-tag file {s} w is =
 -- a file without a fault, opened: its payload is all but the header, and has no fault
 pub record FormOpened (file : List ℕ) : Type 0 where
   pub tagged : file ≡ field_bytes (tag_of Sort.Module) (drop 3 file)
-  pub fine : then_by declarations_step (until_end (field_by (process_body process_levels))) 3 0 (drop 3 file) ≡ Judged.Fine
+  pub fine : then_by declarations_step (until_end (field_by (process_body 31))) 3 0 (drop 3 file) ≡ Judged.Fine
 
 pub form-opened : (file : List ℕ) → AllBytes file → file_answer longest_module file ≡ Answer.Accepted → (m : ℕ) → module_form file ≡ Step.Past m → FormOpened file
 unfolding module_form
@@ -97,7 +97,7 @@ form-opened file h accepted m e =
     let n = p.size in
     let outer : n + 3 ≡ length file = ap (λ (k : ℕ). k + 3) p.whole.size ∙ (file-fits longest_module file accepted).outer in
     let all : take n (drop 3 file) ≡ drop 3 file = take_all n (drop 3 file) (omega (arith, length-drop 3 file)) in
-    let c = sort-fine Sort.Module p.sort (then_by declarations_step (until_end (field_by (process_body process_levels))) 3 0 (take n (drop 3 file))) 0 p.fine in
+    let c = sort-fine Sort.Module p.sort (then_by declarations_step (until_end (field_by (process_body 31))) 3 0 (take n (drop 3 file))) 0 p.fine in
     record {
       tagged = sym (take_all (n + 3) file (omega arith)) ∙ whole-bytes file h p.whole ∙ ap₂ field_bytes (module-tag file p.whole c.0) all;
       fine = rw all at c.1;
@@ -165,7 +165,7 @@ record PartsFit (m : Module) : Type 0 where
   front : length (all_bytes_of declaration_bytes m.declarations) ≤ longest_field
   after : length (all_bytes_of process_bytes m.processes) ≤ longest_field
   short : length (module_payload m) < 65536
-  deep : processes_depth m.processes ≤ process_levels
+  deep : processes_depth m.processes ≤ 31
 
 parts-fit : (m : Module) → FitsModule m → PartsFit m
 unfolding module_payload module_bytes module_depth
@@ -180,17 +180,17 @@ module _ (m : Module) (fits : FitsModule m) where
   declared : Each is_declaration declaration_body declaration_read declaration_bytes m.declarations
   declared = declarations-each m.declarations fits.declarations (parts-fit m fits).front
 
-  processed : Each (is_sort Sort.Process) (process_body process_levels) (λ s p. block_in process_levels p) process_bytes m.processes
-  processed = processes-each statement_levels m.processes fits.processes (parts-fit m fits).deep (parts-fit m fits).after
+  processed : Each (is_sort Sort.Process) (process_body 31) (λ s p. block_in 31 p) process_bytes m.processes
+  processed = processes-each 30 m.processes fits.processes (parts-fit m fits).deep (parts-fit m fits).after
 
-  payload-fine : (base owner : ℕ) → then_by declarations_step (until_end (field_by (process_body process_levels))) base owner (module_payload m) ≡ Judged.Fine
+  payload-fine : (base owner : ℕ) → then_by declarations_step (until_end (field_by (process_body 31))) base owner (module_payload m) ≡ Judged.Fine
   unfolding module_payload
   payload-fine base owner =
       let front = all_bytes_of declaration_bytes m.declarations in
       let after = all_bytes_of process_bytes m.processes in
-      then-written declarations_step (until_end (field_by (process_body process_levels))) base owner front after
+      then-written declarations_step (until_end (field_by (process_body 31))) base owner front after
       (declarations-pass base owner after declared (processes-stop m.processes))
-      (until-stands (is_sort Sort.Process) (process_body process_levels) (λ s p. block_in process_levels p) process_bytes (base + length front) owner processed)
+      (until-stands (is_sort Sort.Process) (process_body 31) (λ s p. block_in 31 p) process_bytes (base + length front) owner processed)
 
   payload-read : tree_in (module_payload m) ≡ m
   unfolding module_payload tree_in
@@ -202,9 +202,9 @@ module _ (m : Module) (fits : FitsModule m) where
       ap unplaced (declarations-placed 0 0 after declared stops) ∙ placed-unplaced declaration_bytes 0 m.declarations in
       let left : after_declarations (front ++ after) ≡ after =
       ap (λ (s : Step). drop (passed_bytes s) (front ++ after)) (declarations-pass 0 0 after declared stops) ∙ drop_at front after (length front) refl in
-      let second : unplaced (read_placed (is_sort Sort.Process) (λ s p. block_in process_levels p) 0 (after_declarations (front ++ after))) ≡ m.processes =
-      ap (list_in (is_sort Sort.Process) (process_body process_levels) (λ s p. block_in process_levels p) process_bytes) left
-      ∙ until-back (is_sort Sort.Process) (process_body process_levels) (λ s p. block_in process_levels p) process_bytes processed in
+      let second : unplaced (read_placed (is_sort Sort.Process) (λ s p. block_in 31 p) 0 (after_declarations (front ++ after))) ≡ m.processes =
+      ap (list_in (is_sort Sort.Process) (process_body 31) (λ s p. block_in 31 p) process_bytes) left
+      ∙ until-back (is_sort Sort.Process) (process_body 31) (λ s p. block_in 31 p) process_bytes processed in
       ap₂ (λ (a : List Declaration) (b : List Block). let x : Module = record { declarations = a; processes = b } in x) first second
 
   module-stands : Stands (is_sort Sort.Module) (module_body deepest) (λ s p. tree_in p) module_bytes m

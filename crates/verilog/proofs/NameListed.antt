@@ -4,33 +4,32 @@ use mathlib.Core.List.{List, ◌∷◌, ◌++◌}
 use Prim.Native.Nat.{ℕ, ◌-◌}
 use native.Mathlib.Omega.{arith}
 use lib.ListN.{length, take, drop, length-drop, take-append-drop}
-use Rattle.tagged.specs.Limits.{longest_module, process_levels}
+use Rattle.tagged.specs.Limits.{longest_module}
 use Rattle.tagged.specs.Bytes.{AllBytes}
 use Rattle.tagged.specs.Fields.{all_bytes_of, placed_by, field_by, until_end}
 use Rattle.tagged.specs.Files.{file_answer}
-use Rattle.declarations.specs.Declarations.{Declaration, name_of, declaration_bytes, declarations_step}
+use Rattle.tagged.specs.Declarations.{Declaration, name_of, declaration_bytes, declarations_step}
 use Rattle.tagged.specs.declared.answers.Answer.TheVariants as Answer
-use Rattle.declarations.specs.declared.parts.Part.{Part}
+use Rattle.tagged.specs.declared.parts.Part.{Part}
 use Rattle.tagged.proofs.ByteLaws.{bytes_drop}
 use Rattle.tagged.proofs.JudgeLaws.{then-tells}
 use Rattle.tagged.proofs.FileLaws.{file-fits, accepted-parts}
-use Rattle.declarations.proofs.DeclarationBytes.{declarations-read}
-use Rattle.declarations.proofs.PlacedParts.{name-in-file}
+use Rattle.tagged.proofs.DeclarationBytes.{declarations-read}
+use Rattle.tagged.proofs.PlacedParts.{name-in-file}
 use Rattle.verilog.specs.Form.{process_body, module_form}
 use Rattle.verilog.specs.Reading.{tree_in, module_in}
 use Rattle.verilog.specs.Answer.{tree_answer, module_answer}
 use Rattle.verilog.specs.Parts.{name_part}
-use Rattle.verilog.proofs.FileAnswers.{module-answered}
 use Rattle.verilog.proofs.ModuleBytes.{form-opened}
 
 pub name-listed : (file : List ℕ) → AllBytes file → module_answer file ≡ Answer.Accepted → (earlier : List Declaration) (d : Declaration) (later : List Declaration) →
     (module_in file).declarations ≡ earlier ++ (d ∷ later) →
     let p : Part = name_part (length earlier) file in take (p.end - p.start) (drop p.start file) ≡ name_of d
-unfolding tree_in name_part
+unfolding module_answer tree_in name_part
 name-listed file h e earlier d later split =
     let l = drop 3 file in
-    let p = accepted-parts (file_answer longest_module file) (module_form file) (tree_answer 3 (module_in file)) (sym (module-answered file) ∙ e) in
-    let t = then-tells declarations_step (until_end (field_by (process_body process_levels))) 3 0 l (form-opened file h p.1 p.0 p.2).fine in
+    let p = accepted-parts (file_answer longest_module file) (module_form file) (tree_answer 3 (module_in file)) e in
+    let t = then-tells declarations_step (until_end (field_by (process_body 31))) 3 0 l (form-opened file h p.1 p.0 p.2).fine in
     let declared = declarations-read 3 0 l t.size (bytes_drop 3 file h) t.passed in
     let written : l ≡ all_bytes_of declaration_bytes (earlier ++ (d ∷ later)) ++ drop t.size l =
     sym (take-append-drop t.size l) ∙ ap (λ (front : List ℕ). front ++ drop t.size l) (declared.written ∙ ap (all_bytes_of declaration_bytes) split) in

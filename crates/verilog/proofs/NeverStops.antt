@@ -15,10 +15,10 @@ use Rattle.words.specs.Values.{Outcome, got}
 use Rattle.words.proofs.BitLaws.{bit-lt}
 use Rattle.words.proofs.WidthLaws.{one-lt, two-lt, put_bit-lt}
 use Rattle.tagged.specs.Choice.{choose}
-use Rattle.declarations.specs.Declarations.{Declaration, width_of, variable_width, register_at}
-use Rattle.declarations.specs.Rows.{all_fit}
-use Rattle.declarations.specs.Cycles.{with_inputs, inputs_fit}
-use Rattle.declarations.proofs.RowLaws.{fits-length}
+use Rattle.tagged.specs.Declarations.{Declaration, width_of, variable_width, register_at}
+use Rattle.tagged.specs.Rows.{all_fit}
+use Rattle.tagged.specs.Cycles.{with_inputs, inputs_fit}
+use Rattle.tagged.proofs.RowLaws.{fits-length}
 use Rattle.tagged.specs.declared.sorts.Kind.{Kind}
 use Rattle.tagged.specs.declared.sorts.Kind.TheVariants as Kind
 use Rattle.verilog.specs.Tree.{Expression, Statement, Block, Items, Module}
@@ -26,7 +26,7 @@ use Rattle.verilog.specs.Rules.{expression_width}
 use Rattle.verilog.specs.Cycle.{State, evaluate, held, changed, execute, execute_block, execute_items, execute_all, delays_any, settled, module_cycle}
 use Rattle.verilog.specs.Quiet.{quiet, quiet_block, quiet_items, quiet_all, quiet_cycle, quiet_cycles}
 use Rattle.verilog.proofs.FitLaws.{Fits, none-fit, more-fit, fits-of-test, test-of-fits, number_fits, set-fits}
-use Rattle.declarations.proofs.CycleLaws.{with-inputs-fits, Steps, Runs as CyclesRun, cycles-run}
+use Rattle.tagged.proofs.CycleLaws.{with-inputs-fits, Steps, Runs as CyclesRun, cycles-run}
 use Rattle.verilog.proofs.Typed.{Typed, constant-fits, variable-there, bit-inside, index-inside, one_typed, two_typed, TypedStatement, assign-typed, assign_bit-typed, if_else-typed, case-typed, TypedBlock, end-typed, then_typed, TypedItems, default-typed, item-typed, TypedAll, none-typed, more-typed, TypedModule}
 
 -- the values of all variables fit

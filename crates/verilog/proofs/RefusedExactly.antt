@@ -2,13 +2,14 @@
 -- From the laws of the first broken element and rule, the relation in words (BreaksLaws), and that places rise with the order of the fields.
 use mathlib.Core.Path.{◌≡◌, refl, sym, ◌∙◌}
 use mathlib.Core.Bool.{Bool, true, false, false≢true}
-use mathlib.Core.List.{List, []}
+use mathlib.Core.List.{List, [], ◌∷◌, Memᴰ}
 use mathlib.Core.Logic.{◌↔◌}
 use Prim.Native.Nat.{ℕ, ◌<◌}
 use Rattle.tagged.specs.Fields.{unplaced}
 use Rattle.tagged.specs.Limits.{longest_module}
 use Rattle.tagged.specs.Files.{file_answer}
-use Rattle.tagged.specs.Order.{Before}
+use Rattle.tagged.specs.Refusals.{after_form, after_answer}
+use Rattle.tagged.specs.Answers.{number_of}
 use Rattle.tagged.specs.Stands.{Stands}
 use Rattle.tagged.specs.declared.answers.Rule.{Rule}
 use Rattle.tagged.specs.declared.answers.Rule.TheVariants as Rule
@@ -19,19 +20,21 @@ use Rattle.tagged.specs.declared.answers.Found.TheVariants as Found
 use Rattle.tagged.specs.declared.fields.Step.{Step}
 use Rattle.tagged.specs.declared.fields.Step.TheVariants as Step
 use Rattle.tagged.proofs.RefusalLaws.{nowhere-passes, passes-nowhere, FirstBreak, at_first, first-at}
-use Rattle.tagged.proofs.RefusalLaws.{accepted-each, each-accepted, refused-place, refused-before, place-refused}
-use Rattle.tagged.proofs.EarlierLaws.{after_answer}
-use Rattle.tagged.proofs.FileLaws.{after_form, accepted-parts}
+use Rattle.tagged.proofs.RefusalLaws.{Rising, order-rising, accepted-none, none-accepted, none_each, each_none, refused-first, first-refused, first-lower, lower-first, first-broken}
+use Rattle.tagged.proofs.FileLaws.{accepted-parts}
 use Rattle.verilog.specs.Tree.{Module}
 use Rattle.verilog.specs.Nodes.{Node, module_nodes}
 use Rattle.verilog.specs.Rules.{breaks, module_broken}
 use Rattle.verilog.specs.Form.{module_form}
 use Rattle.verilog.specs.Reading.{module_in}
-use Rattle.verilog.specs.Answer.{tree_answer, module_answer}
+use Rattle.verilog.specs.Answer.{module_rules, tree_answer, module_answer}
 use Rattle.verilog.specs.Breaks.{Breaks}
 use Rattle.verilog.proofs.RisingPlaces.{earlier-smaller-place}
-use Rattle.verilog.proofs.BreaksLaws.{breaks-node}
-use Rattle.verilog.proofs.FileAnswers.{module-answered}
+use Rattle.verilog.proofs.BreaksLaws.{BrokenAt, breaks-node}
+
+rules-rise : Rising 3 module_rules
+unfolding number_of
+rules-rise = order-rising 3 module_rules refl
 
 module _ (m : Module) where
   -- the test of rule k, of a field after those before it
@@ -76,35 +79,64 @@ module _ (m : Module) where
       first-at (test k) [] f.stands f.broken
       (λ c q n s fewer. passes-unless k s (sooner q ((earlier-smaller-place m s f.stands).0 fewer)))
 
--- what a refusal says: the field at p breaks rule k, no field before p breaks it, and no field breaks a rule that is looked for before k
+  -- only the rules of the list can be broken
+  after-six : {k : Rule} → Memᴰ k (Rule.BothKinds ∷ Rule.TwoProcesses ∷ Rule.ReadElsewhere ∷ []) → Memᴰ k module_rules
+  after-six i = Memᴰ.tail (Memᴰ.tail (Memᴰ.tail (Memᴰ.tail (Memᴰ.tail (Memᴰ.tail i)))))
+
+  rule-listed : (k : Rule) {p : ℕ} → BrokenAt m k p → Memᴰ k module_rules
+  unfolding breaks
+  rule-listed Rule.Value f = Memᴰ.head refl
+  rule-listed Rule.Name f = Memᴰ.tail (Memᴰ.head refl)
+  rule-listed Rule.Count f = Memᴰ.tail (Memᴰ.tail (Memᴰ.head refl))
+  rule-listed Rule.Reference f = Memᴰ.tail (Memᴰ.tail (Memᴰ.tail (Memᴰ.head refl)))
+  rule-listed Rule.Widths f = Memᴰ.tail (Memᴰ.tail (Memᴰ.tail (Memᴰ.tail (Memᴰ.head refl))))
+  rule-listed Rule.BitNumber f = Memᴰ.tail (Memᴰ.tail (Memᴰ.tail (Memᴰ.tail (Memᴰ.tail (Memᴰ.head refl)))))
+  rule-listed Rule.BothKinds f = after-six (Memᴰ.head refl)
+  rule-listed Rule.TwoProcesses f = after-six (Memᴰ.tail (Memᴰ.head refl))
+  rule-listed Rule.ReadElsewhere f = after-six (Memᴰ.tail (Memᴰ.tail (Memᴰ.head refl)))
+  rule-listed Rule.FileLength f = absurd (false≢true f.broken)
+  rule-listed Rule.Form f = absurd (false≢true f.broken)
+  rule-listed Rule.Cells f = absurd (false≢true f.broken)
+  rule-listed Rule.Buffer f = absurd (false≢true f.broken)
+  rule-listed Rule.Row f = absurd (false≢true f.broken)
+
+  breaks-listed : {k : Rule} {p : ℕ} → Breaks m k p → Memᴰ k module_rules
+  breaks-listed {k} {p} b = rule-listed k ((breaks-node m k p).0 b)
+
+-- what a refusal says: the field at p breaks rule k, no field before p breaks it, and no field breaks a rule of a lower number
 pub record RefusedFor (m : Module) (k : Rule) (p : ℕ) : Type 0 where
   pub breaks : Breaks m k p
   pub first-place : (q : ℕ) → q < p → Breaks m k q → ⊥
-  pub first-rule : (j : Rule) (q : ℕ) → Before j k → Breaks m j q → ⊥
+  pub lowest-number : (j : Rule) (q : ℕ) → number_of j < number_of k → Breaks m j q → ⊥
 
--- Demand 2: a module is refused exactly when it breaks a written rule, with the first such rule; its place is that of the first field that breaks it
+-- Demand 2: a module is refused exactly when it breaks a written rule, with the first such number; its place is that of the first field that breaks it
 pub refused : (m : Module) (k : Rule) (p : ℕ) → tree_answer 3 m ≡ Answer.Refused k p ↔ RefusedFor m k p
 unfolding tree_answer
 refused m k p = (forth, back)
   where
     forth : tree_answer 3 m ≡ Answer.Refused k p → RefusedFor m k p
     forth e =
-        let at = at-breaks m k p (refused-place (module_broken 3 m) e) in
+        let f = refused-first (module_broken 3 m) module_rules e in
+        let at = at-breaks m k p (first-broken (module_broken 3 m) f) in
         record {
           breaks = at.0;
           first-place = at.1;
-          first-rule = λ j q before b. nowhere-none m j (refused-before (module_broken 3 m) e j before) q b;
+          lowest-number = λ j q less b. nowhere-none m j (first-lower (module_broken 3 m) rules-rise f j (breaks-listed m b) less) q b;
         }
 
     back : RefusedFor m k p → tree_answer 3 m ≡ Answer.Refused k p
     back r =
-        place-refused (module_broken 3 m) (breaks-at m k p r.breaks r.first-place)
-        (λ j before. none-nowhere m j (λ q b. r.first-rule j q before b))
+        first-refused (module_broken 3 m)
+        (lower-first (module_broken 3 m) rules-rise (breaks-listed m r.breaks) (breaks-at m k p r.breaks r.first-place)
+        (λ j i less. none-nowhere m j (λ q b. r.lowest-number j q less b)))
 
 -- Demand 2, the other side: a module is accepted exactly when no field breaks a rule
 pub accepted : (m : Module) → tree_answer 3 m ≡ Answer.Accepted ↔ ((k : Rule) (p : ℕ) → Breaks m k p → ⊥)
 unfolding tree_answer
-accepted m = (λ e k p b. nowhere-none m k (accepted-each (module_broken 3 m) e k) p b, λ h. each-accepted (module_broken 3 m) (λ k. none-nowhere m k (h k)))
+accepted m = (
+  λ e k p b. nowhere-none m k (none_each (module_broken 3 m) (accepted-none (module_broken 3 m) module_rules e) k (breaks-listed m b)) p b,
+  λ h. none-accepted (module_broken 3 m) (each_none (module_broken 3 m) module_rules (λ k i. none-nowhere m k (h k))),
+)
 
 -- Demand 2 on files: by its length, else by its form, else by the rules of its tree, in this order
 pub data FileRefused (file : List ℕ) : Rule → ℕ → Type 0 where
@@ -114,7 +146,8 @@ pub data FileRefused (file : List ℕ) : Rule → ℕ → Type 0 where
       FileRefused file k p
 
 pub file-refused : (file : List ℕ) (k : Rule) (p : ℕ) → module_answer file ≡ Answer.Refused k p ↔ FileRefused file k p
-file-refused file k p = (λ e. forth (file_answer longest_module file) refl (module_form file) refl (sym (module-answered file) ∙ e), λ f. module-answered file ∙ back f)
+unfolding module_answer
+file-refused file k p = (λ e. forth (file_answer longest_module file) refl (module_form file) refl e, back)
   where
     forth : (a : Answer) → file_answer longest_module file ≡ a → (s : Step) → module_form file ≡ s →
         after_answer a (after_form s (tree_answer 3 (module_in file))) ≡ Answer.Refused k p → FileRefused file k p
@@ -139,9 +172,10 @@ pub record FileAccepted (file : List ℕ) : Type 0 where
   pub unbroken : (k : Rule) (p : ℕ) → Breaks (module_in file) k p → ⊥
 
 pub file-accepted : (file : List ℕ) → module_answer file ≡ Answer.Accepted ↔ FileAccepted file
-file-accepted file = (forth, λ f. module-answered file ∙ rw (f.long, f.form) ((accepted (module_in file)).1 f.unbroken))
+unfolding module_answer
+file-accepted file = (forth, λ f. rw (f.long, f.form) ((accepted (module_in file)).1 f.unbroken))
   where
     forth : module_answer file ≡ Answer.Accepted → FileAccepted file
     forth e =
-        let p = accepted-parts (file_answer longest_module file) (module_form file) (tree_answer 3 (module_in file)) (sym (module-answered file) ∙ e) in
+        let p = accepted-parts (file_answer longest_module file) (module_form file) (tree_answer 3 (module_in file)) e in
         record { size = p.0; long = p.1; form = p.2; unbroken = (accepted (module_in file)).0 p.3 }

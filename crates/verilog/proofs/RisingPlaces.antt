@@ -7,7 +7,7 @@ use lib.ListN.{length, length-append}
 use Rattle.tagged.specs.Bytes.{two_bytes, four_bytes}
 use Rattle.tagged.specs.Fields.{Placed, field_bytes, all_bytes_of}
 use Rattle.tagged.specs.Stands.{Stands}
-use Rattle.declarations.specs.Declarations.{Declaration, declaration_bytes}
+use Rattle.tagged.specs.Declarations.{Declaration, declaration_bytes}
 use Rattle.tagged.proofs.RiseLaws.{Rise, none, more, rise-from, rise-to, rise-append, earlier-smaller, smaller-earlier}
 use Rattle.verilog.specs.Tree.{Expression, constant, variable, fixed_bit, chosen_bit, one, two}
 use Rattle.verilog.specs.Tree.{Statement, assign, assign_bit, if_else, case, Block, end, ◌then◌, Items, default, item, Module}

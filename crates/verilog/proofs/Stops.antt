@@ -12,9 +12,9 @@ use Rattle.words.specs.Operators as operators
 use Rattle.words.specs.Values.{Outcome, is_got}
 use Rattle.words.specs.declared.OneOperand.TheVariants.{Not, Parity}
 use Rattle.words.specs.declared.TwoOperand.TheVariants.{And, Or, Xor, Add, Equal}
-use Rattle.declarations.specs.Declarations.{Declaration, input, register}
-use Rattle.declarations.specs.Rows.{all_fit}
-use Rattle.declarations.specs.Cycles as cycles
+use Rattle.tagged.specs.Declarations.{Declaration, input, register}
+use Rattle.tagged.specs.Rows.{all_fit}
+use Rattle.tagged.specs.Cycles as cycles
 use Rattle.tagged.specs.declared.sorts.Kind.{Kind}
 use Rattle.tagged.specs.declared.sorts.Kind.TheVariants.{Blocking, NonBlocking}
 use Rattle.verilog.specs.Tree.{Expression, constant, variable, fixed_bit, chosen_bit, one, two, Statement, assign, assign_bit, if_else, case, Block, end, ◌then◌, default, item, Module}

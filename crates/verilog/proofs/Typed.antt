@@ -8,7 +8,7 @@ use lib.ListN.{length}
 use Rattle.words.specs.declared.OneOperand.{OneOperand}
 use Rattle.words.specs.declared.TwoOperand.{TwoOperand}
 use Rattle.words.specs.Widths.{is_width, fits_width, index_within}
-use Rattle.declarations.specs.Declarations.{Declaration, width_of, variable_width, register_at}
+use Rattle.tagged.specs.Declarations.{Declaration, width_of, variable_width, register_at}
 use Rattle.tagged.specs.declared.sorts.Kind.{Kind}
 use Rattle.verilog.specs.Tree.{Expression, constant, variable, fixed_bit, chosen_bit, one, two, Statement, assign, assign_bit, if_else, case, Block, end, ◌then◌, Items, default, item, Module}
 use Rattle.verilog.specs.Rules.{expression_width}

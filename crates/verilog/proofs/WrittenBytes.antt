@@ -7,7 +7,7 @@ use Rattle.words.specs.declared.TwoOperand.TheVariants as operands
 use Rattle.tagged.specs.Bytes.{AllBytes, four_bytes}
 use Rattle.tagged.specs.Sorts.{tag_of}
 use Rattle.tagged.specs.Fields.{field_bytes, all_bytes_of}
-use Rattle.declarations.specs.Declarations.{Declaration, input, register, declaration_bytes}
+use Rattle.tagged.specs.Declarations.{Declaration, input, register, declaration_bytes}
 use Rattle.tagged.specs.declared.sorts.DeclarationSort.{DeclarationSort}
 use Rattle.tagged.specs.declared.sorts.DeclarationSort.TheVariants as DeclarationSort
 use Rattle.tagged.specs.declared.sorts.Kind.TheVariants as Kind

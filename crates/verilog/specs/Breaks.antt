@@ -4,8 +4,8 @@ use Rattle.std.specs.Prelude.{◌≡◌, List, ◌∷◌, ℕ, suc, ◌^◌, ◌
 use Rattle.words.specs.declared.TwoOperand.{TwoOperand}
 use Rattle.tagged.specs.Limits.{most_processes}
 use Rattle.tagged.specs.Stands.{Stands}
-use Rattle.declarations.specs.Declarations.{Declaration, input, variable_width}
-use Rattle.declarations.specs.DeclarationPhrases.{NoWidth, DeclarationPhrase}
+use Rattle.tagged.specs.Declarations.{Declaration, input, variable_width}
+use Rattle.tagged.specs.DeclarationPhrases.{NoWidth, DeclarationPhrase}
 use Rattle.tagged.specs.declared.sorts.Kind.{Kind}
 use Rattle.tagged.specs.declared.sorts.Kind.TheVariants as Kind
 use Rattle.tagged.specs.declared.answers.Rule.{Rule}

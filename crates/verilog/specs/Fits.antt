@@ -2,7 +2,7 @@
 use Rattle.std.specs.Prelude.{List, [], ◌∷◌, ℕ, suc, ◌^◌, ◌≤◌, ◌<◌, max, length}
 use Rattle.tagged.specs.Bytes.{AllBytes}
 use Rattle.tagged.specs.Limits.{deepest, longest_module}
-use Rattle.declarations.specs.Declarations.{Declaration, width_of, name_of, initial_of}
+use Rattle.tagged.specs.Declarations.{Declaration, width_of, name_of, initial_of}
 use Rattle.verilog.specs.Tree.{Expression, constant, variable, fixed_bit, chosen_bit, one, two, Statement, assign, assign_bit, if_else, case, Block, end, ◌then◌, Items, default, item, Module}
 use Rattle.verilog.specs.Form.{module_bytes}
 

@@ -4,7 +4,7 @@ use Rattle.tagged.specs.Limits.{deepest}
 use Rattle.tagged.specs.Bytes.{four_bytes}
 use Rattle.tagged.specs.Sorts.{tag_of, on_statement, on_expression, is_sort}
 use Rattle.tagged.specs.Fields.{Judge, Stepper, Body, field_bytes, all_bytes_of, field_by, then_by, fixed_then, ended, many, until_end}
-use Rattle.declarations.specs.Declarations.{declaration_bytes, declarations_step}
+use Rattle.tagged.specs.Declarations.{declaration_bytes, declarations_step}
 use Rattle.tagged.specs.declared.sorts.StatementSort.{StatementSort}
 use Rattle.tagged.specs.declared.sorts.StatementSort.TheVariants as StatementSort
 use Rattle.tagged.specs.declared.sorts.ExpressionSort.{ExpressionSort}

@@ -1,7 +1,7 @@
 -- The fields of a module that a rule can name, in file order, each with its place. Outer fields stand before inner ones, by start.
 use Rattle.std.specs.Prelude.{List, [], ◌∷◌, ◌++◌, ℕ, ◌+◌, length}
 use Rattle.tagged.specs.Fields.{Placed, all_bytes_of}
-use Rattle.declarations.specs.Declarations.{Declaration, declaration_bytes}
+use Rattle.tagged.specs.Declarations.{Declaration, declaration_bytes}
 use Rattle.verilog.specs.Tree.{Expression, constant, variable, fixed_bit, chosen_bit, one, two, Statement, assign, assign_bit, if_else, case, Block, end, ◌then◌, Items, default, item, Module}
 use Rattle.verilog.specs.Form.{expression_bytes, statement_bytes, block_payload, process_bytes}
 

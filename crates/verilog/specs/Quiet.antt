@@ -2,8 +2,8 @@
 -- would stop when executed there from the values of that moment. Inside a block not taken the values are the supposed ones.
 use Rattle.std.specs.Prelude.{Bool, true, false, ◌&&◌, List, [], ◌∷◌, ℕ, eqb, length}
 use Rattle.words.specs.Values.{Outcome, stopped, got, is_got}
-use Rattle.declarations.specs.Cycles.{with_inputs}
-use Rattle.declarations.specs.Declarations.{Declaration}
+use Rattle.tagged.specs.Cycles.{with_inputs}
+use Rattle.tagged.specs.Declarations.{Declaration}
 use Rattle.verilog.specs.Tree.{Statement, assign, assign_bit, if_else, case, Block, end, ◌then◌, Items, default, item, Module}
 use Rattle.verilog.specs.Cycle.{State, evaluate, execute, execute_block, module_cycle}
 

@@ -1,11 +1,10 @@
 -- The tree that is read from bytes, by total functions: what is malformed is a constant of width 0, the end of a block, or an empty default.
 -- The first argument of what recurses is how many levels of fields may still be opened.
 use Rattle.std.specs.Prelude.{cond, List, [], ◌∷◌, ℕ, zero, suc, ◌+◌, get_or, take, drop}
-use Rattle.tagged.specs.Limits.{process_levels}
 use Rattle.tagged.specs.Bytes.{four_of}
 use Rattle.tagged.specs.Sorts.{on_statement, on_expression, is_statement, is_sort}
 use Rattle.tagged.specs.Fields.{open_of, on_field, field_by, many, passed_bytes, read_placed, unplaced}
-use Rattle.declarations.specs.Declarations.{declarations_in, after_declarations}
+use Rattle.tagged.specs.Declarations.{declarations_in, after_declarations}
 use Rattle.tagged.specs.declared.sorts.StatementSort.{StatementSort}
 use Rattle.tagged.specs.declared.sorts.StatementSort.TheVariants as StatementSort
 use Rattle.tagged.specs.declared.sorts.ExpressionSort.{ExpressionSort}
@@ -110,11 +109,11 @@ unfoldable mutual
     block = block_front (λ p. block_in d p) (after_front l);
   }
 
--- the module in an outer payload
+-- the module in an outer payload; a process's statements have 31 levels left, itself counted
 unfoldable pub tree_in : List ℕ → Module
 tree_in l = record {
   declarations = declarations_in l;
-  processes = unplaced (read_placed (is_sort Sort.Process) (λ s p. block_in process_levels p) 0 (after_declarations l));
+  processes = unplaced (read_placed (is_sort Sort.Process) (λ s p. block_in 31 p) 0 (after_declarations l));
 }
 
 -- the module of a file

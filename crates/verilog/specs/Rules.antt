@@ -4,8 +4,8 @@ use Rattle.words.specs.Widths.{is_width, fits_width, index_within}
 use Rattle.words.specs.Operators.{one_width, two_width}
 use Rattle.tagged.specs.Limits.{most_processes}
 use Rattle.tagged.specs.Fields.{unplaced}
-use Rattle.tagged.specs.Refusals.{For, ◌by◌, for_rule, Test, never, first_broken}
-use Rattle.declarations.specs.Declarations.{Declaration, variable_width, register_at, value_broken, name_broken, count_broken}
+use Rattle.tagged.specs.Refusals.{first_broken}
+use Rattle.tagged.specs.Declarations.{Declaration, variable_width, register_at, value_broken, name_broken, count_broken}
 use Rattle.tagged.specs.declared.sorts.Kind.{Kind}
 use Rattle.tagged.specs.declared.sorts.Kind.TheVariants as Kind
 use Rattle.tagged.specs.declared.answers.Rule.{Rule}
@@ -131,29 +131,28 @@ write_outside ds (assign_bit kind v k e) = leb (variable_width ds v) k
 write_outside ds (if_else c a b) = false
 write_outside ds (case e items) = false
 
--- the rules that a field of the tree can break, each with its test of one, after those before it and among all of them
-unfoldable pub module_tests : List Declaration → List Node → List (For (Test Node))
-module_tests ds all =
-    Rule.Value by (λ earlier n. by_field value_broken false constant_broken (λ s. false) (λ e w. false) n.what)
-    ∷ Rule.Name by (λ earlier n. by_field (name_broken (declarations_of earlier)) false (λ e. false) (λ s. false) (λ e w. false) n.what)
-    ∷ Rule.Count by (λ earlier n.
-    by_field (count_broken (declarations_of earlier)) (leb most_processes (count_processes earlier)) (λ e. false) (λ s. false) (λ e w. false) n.what)
-    ∷ Rule.Reference by (λ earlier n.
-    by_field (λ d. false) false (reads_by (missing_variable ds)) (assigns_by (λ kind v. not (register_at ds v))) (λ e w. false) n.what)
-    ∷ Rule.Widths by (λ earlier n.
-    by_field (λ d. false) false (operands_differ ds) (statement_differs ds) (λ e w. not (eqb w (expression_width ds e))) n.what)
-    ∷ Rule.BitNumber by (λ earlier n. by_field (λ d. false) false (read_outside ds) (write_outside ds) (λ e w. false) n.what)
-    ∷ Rule.BothKinds by (λ earlier n.
-    is_assignment (λ kind v. some_node (is_assignment (λ other u. eqb u v && not (same_kind other kind))) earlier) n)
-    ∷ Rule.TwoProcesses by (λ earlier n.
-    is_assignment (λ kind v. some_node (λ m. is_assignment (λ other u. eqb u v && not (eqb m.in_process n.in_process)) m) earlier) n)
-    ∷ Rule.ReadElsewhere by (λ earlier n.
-    is_read (λ v. some_node (λ m. is_assignment (λ other u. is_blocking other && eqb u v && not (eqb m.in_process n.in_process)) m) all) n)
-    ∷ []
-
--- the test of a rule
-abbrev pub breaks : List Declaration → List Node → Rule → Test Node
-breaks ds all rule = for_rule never (module_tests ds all) rule
+-- does a field, after those before it and among all of them, break this rule?
+unfoldable pub breaks : List Declaration → List Node → Rule → List Node → Node → Bool
+breaks ds all Rule.Value earlier n = by_field value_broken false constant_broken (λ s. false) (λ e w. false) n.what
+breaks ds all Rule.Name earlier n = by_field (name_broken (declarations_of earlier)) false (λ e. false) (λ s. false) (λ e w. false) n.what
+breaks ds all Rule.Count earlier n =
+    by_field (count_broken (declarations_of earlier)) (leb most_processes (count_processes earlier)) (λ e. false) (λ s. false) (λ e w. false) n.what
+breaks ds all Rule.Reference earlier n =
+    by_field (λ d. false) false (reads_by (missing_variable ds)) (assigns_by (λ kind v. not (register_at ds v))) (λ e w. false) n.what
+breaks ds all Rule.Widths earlier n =
+    by_field (λ d. false) false (operands_differ ds) (statement_differs ds) (λ e w. not (eqb w (expression_width ds e))) n.what
+breaks ds all Rule.BitNumber earlier n = by_field (λ d. false) false (read_outside ds) (write_outside ds) (λ e w. false) n.what
+breaks ds all Rule.BothKinds earlier n =
+    is_assignment (λ kind v. some_node (is_assignment (λ other u. eqb u v && not (same_kind other kind))) earlier) n
+breaks ds all Rule.TwoProcesses earlier n =
+    is_assignment (λ kind v. some_node (λ m. is_assignment (λ other u. eqb u v && not (eqb m.in_process n.in_process)) m) earlier) n
+breaks ds all Rule.ReadElsewhere earlier n =
+    is_read (λ v. some_node (λ m. is_assignment (λ other u. is_blocking other && eqb u v && not (eqb m.in_process n.in_process)) m) all) n
+breaks ds all Rule.FileLength earlier n = false
+breaks ds all Rule.Form earlier n = false
+breaks ds all Rule.Cells earlier n = false
+breaks ds all Rule.Buffer earlier n = false
+breaks ds all Rule.Row earlier n = false
 
 -- the first place that breaks a rule, of a module whose payload starts at `base`
 unfoldable pub module_broken : ℕ → Module → Rule → Found

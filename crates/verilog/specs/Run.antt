@@ -1,12 +1,12 @@
 -- Running a module uses refusals 1 to 11 and 14. It reads one row and writes another; a refusal leaves the row that is written as it was.
 use Rattle.std.specs.Prelude.{List, map, ℕ, length}
 use Rattle.words.specs.Values.{Outcome}
-use Rattle.declarations.specs.Declarations.{width_of}
-use Rattle.declarations.specs.Rows.{row_numbers}
-use Rattle.declarations.specs.Runs.{run_answer_of, row_left}
+use Rattle.tagged.specs.Declarations.{width_of}
+use Rattle.tagged.specs.Rows.{row_numbers}
+use Rattle.tagged.specs.Runs.{run_answer_of, row_left}
 use Rattle.tagged.specs.declared.answers.Answer.{Answer}
 use Rattle.verilog.specs.Reading.{module_in}
-use Rattle.verilog.specs.Answer.{module_file_broken}
+use Rattle.verilog.specs.Answer.{module_answer}
 use Rattle.verilog.specs.Cycle.{module_cycle}
 
 -- the widths of a file's variables
@@ -15,7 +15,7 @@ file_widths file = map width_of (module_in file).declarations
 
 -- the answer of a run on a file, a row that is read, and the length of the row that is written
 unfoldable pub run_answer : List ℕ → List ℕ → ℕ → Answer
-run_answer file row room = run_answer_of (module_file_broken file) (file_widths file) row room
+run_answer file row room = run_answer_of (module_answer file) (file_widths file) row room
 
 -- what a cycle gives from the numbers of a row
 abbrev pub cycle_of : List ℕ → List ℕ → Outcome (List ℕ)

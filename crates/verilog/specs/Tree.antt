@@ -2,7 +2,7 @@
 use Rattle.std.specs.Prelude.{List, ℕ}
 use Rattle.words.specs.declared.OneOperand.{OneOperand}
 use Rattle.words.specs.declared.TwoOperand.{TwoOperand}
-use Rattle.declarations.specs.Declarations.{Declaration}
+use Rattle.tagged.specs.Declarations.{Declaration}
 use Rattle.tagged.specs.declared.sorts.Kind.{Kind}
 
 -- expressions, 20 to 2A

@@ -3,11 +3,11 @@
 ghost use Rattle.std.specs.Prelude.{◌≡◌, ◌+◌, ◌^◌, ◌≤◌, length};
 ghost use Rattle.tagged.specs.Sorts.{sort_of, is_sort};
 ghost use Rattle.tagged.specs.Fields.{field_by, then_by, fixed_then, ended, many, until_end};
-ghost use Rattle.declarations.specs.Declarations.{declarations_step};
+ghost use Rattle.tagged.specs.Declarations.{declarations_step};
 ghost use Rattle.verilog.specs.Form.{expression_body, expression_parts, constant_of, constant_body, statement_body, statement_parts};
 ghost use Rattle.verilog.specs.Form.{block_body, item_body, process_body, module_body, module_form};
 
-use declarations::form::declarations;
+use tagged::declarations::declarations;
 use tagged::fields::{Judged, Opened, Step, at_end, open_field, passed};
 use tagged::limits::Depth;
 use tagged::sorts::{ExpressionSort, Sort, StatementSort, sort_of};

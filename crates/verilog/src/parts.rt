@@ -2,8 +2,8 @@
 ghost use Rattle.std.specs.Prelude.{◌≡◌, ◌^◌, ◌≤◌, length};
 ghost use Rattle.verilog.specs.Parts.{name_part};
 
-use declarations::parts::{Part, name_in};
 use tagged::bytes::from;
+use tagged::parts::{Part, name_in};
 
 // The part of a file that holds the name of the variable of this number; without such a variable, nothing at its end.
 pub fn name_part(file: &[u8], number: usize) -> Part

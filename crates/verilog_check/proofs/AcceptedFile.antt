@@ -1,44 +1,47 @@
 -- An accepted module file: it has a length and a form without a fault, is short, has at most 64 variables, their widths are as its table tells them,
 -- and no register has both kinds of assignment.
-use mathlib.Core.Path.{◌≡◌, refl, sym, ap, ◌∙◌}
+use mathlib.Core.Path.{◌≡◌, refl, ap, ◌∙◌}
 use mathlib.Core.List.{List, map}
 use Prim.Native.Nat.{ℕ, ◌≤◌}
 use native.Mathlib.Omega.{arith}
 use lib.ListN.{length, take, drop, length-take, length-drop}
 use Rattle.tagged.specs.Limits.{longest_module, deepest, most_variables}
 use Rattle.tagged.specs.Files.{file_answer}
-use Rattle.declarations.specs.Declarations.{width_of, declarations_in, variable_table}
-use Rattle.declarations.specs.declared.table.VariableTable.{VariableTable}
+use Rattle.tagged.specs.Declarations.{width_of, declarations_in, variable_table}
+use Rattle.tagged.specs.declared.declarations.VariableTable.{VariableTable}
 use Rattle.tagged.specs.declared.answers.Rule.TheVariants as Rule
 use Rattle.tagged.specs.declared.answers.Found.TheVariants as Found
 use Rattle.tagged.specs.declared.answers.Answer.TheVariants as Answer
 use Rattle.tagged.specs.declared.fields.Step.TheVariants as Step
-use Rattle.tagged.proofs.RefusalLaws.{accepted-each}
+use Rattle.tagged.proofs.RefusalLaws.{NoneBroken, more, accepted-none}
 use Rattle.tagged.proofs.FileLaws.{file-fits, accepted-parts, form-whole}
-use Rattle.declarations.proofs.TableLaws.{count_fits, widths-long, marks-long}
-use Rattle.declarations.proofs.DeclarationSizes.{variables-few}
+use Rattle.tagged.proofs.TableLaws.{count_fits, widths-long, marks-long}
+use Rattle.tagged.proofs.DeclarationSizes.{variables-few}
 use Rattle.verilog.specs.Tree.{Module}
 use Rattle.verilog.specs.Rules.{module_broken}
 use Rattle.verilog.specs.Form.{module_body, module_form}
 use Rattle.verilog.specs.Reading.{tree_in, module_in}
-use Rattle.verilog.specs.Answer.{module_answer, tree_answer}
+use Rattle.verilog.specs.Answer.{module_rules, module_answer, tree_answer}
 use Rattle.verilog.specs.Run.{file_widths}
-use Rattle.verilog.proofs.FileAnswers.{module-answered}
 use Rattle.verilog.proofs.AcceptedModule.{accepted-declarations}
 
 -- rule 9 has no place in an accepted tree
 pub one-kind : (m : Module) → tree_answer 3 m ≡ Answer.Accepted → module_broken 3 m Rule.BothKinds ≡ Found.Nowhere
 unfolding tree_answer
-one-kind m e = accepted-each (module_broken 3 m) e Rule.BothKinds
+one-kind m e = go (accepted-none (module_broken 3 m) module_rules e)
+  where
+    go : NoneBroken (module_broken 3 m) module_rules → module_broken 3 m Rule.BothKinds ≡ Found.Nowhere
+    go (more value (more name (more count (more reference (more widths (more bits (more kinds others))))))) = kinds
 
 module _ (file : List ℕ) (accepted : module_answer file ≡ Answer.Accepted) where
   pub length-accepted : file_answer longest_module file ≡ Answer.Accepted
-  length-accepted = (accepted-parts (file_answer longest_module file) (module_form file) (tree_answer 3 (module_in file)) (sym (module-answered file) ∙ accepted)).1
+  unfolding module_answer
+  length-accepted = (accepted-parts (file_answer longest_module file) (module_form file) (tree_answer 3 (module_in file)) accepted).1
 
   pub form-passed : module_form file ≡ Step.Past (length file)
-  unfolding module_form
+  unfolding module_answer module_form
   form-passed =
-      let parts = accepted-parts (file_answer longest_module file) (module_form file) (tree_answer 3 (module_in file)) (sym (module-answered file) ∙ accepted) in
+      let parts = accepted-parts (file_answer longest_module file) (module_form file) (tree_answer 3 (module_in file)) accepted in
       form-whole longest_module file (file_answer longest_module file) refl length-accepted (module_body deepest) parts.0 parts.2
 
   pub few-variables : length (module_in file).declarations ≤ most_variables

@@ -6,21 +6,20 @@ use mathlib.Core.List.{List}
 use Prim.Native.Nat.{ℕ, ◌<◌}
 use lib.ListN.{length}
 use borrow.Author.Tests.{leb-false, not-false}
-use Rattle.declarations.specs.Declarations.{Declaration, register_at}
+use Rattle.tagged.specs.Declarations.{Declaration, register_at}
 use Rattle.tagged.specs.declared.sorts.Kind.{Kind}
 use Rattle.tagged.specs.declared.answers.Rule.TheVariants as Rule
 use Rattle.verilog.specs.Tree.{constant, variable, fixed_bit, chosen_bit, one, two, assign, assign_bit, if_else, case}
 use Rattle.verilog.specs.Nodes.{What, declaration, process, expression, statement, item_of, Node}
-use Rattle.verilog.specs.Rules.{is_assignment, is_read, breaks, module_tests}
+use Rattle.verilog.specs.Rules.{is_assignment, is_read, breaks}
 use Rattle.verilog.proofs.BreaksLaws.{register-exists}
-use Rattle.tagged.specs.Order.{number_of}
 
 module _ (ds : List Declaration) (all earlier : List Node) (n : Node) (passes : breaks ds all Rule.Reference earlier n ≡ false) where
   abbrev same : What → Node
   same w = record { in_process = n.in_process; what = w }
 
   pub reads_same : (f g : ℕ → Bool) → ((v : ℕ) → v < length ds → f v ≡ g v) → is_read f n ≡ is_read g n
-  unfolding module_tests number_of
+  unfolding breaks
   reads_same f g agree = go n.what passes
     where
       go : (w : What) → breaks ds all Rule.Reference earlier (same w) ≡ false → is_read f (same w) ≡ is_read g (same w)
@@ -36,7 +35,7 @@ module _ (ds : List Declaration) (all earlier : List Node) (n : Node) (passes : 
       go (item_of x w) e = refl
 
   pub assignments-same : (f g : Kind → ℕ → Bool) → ((kind : Kind) (v : ℕ) → v < length ds → f kind v ≡ g kind v) → is_assignment f n ≡ is_assignment g n
-  unfolding module_tests number_of
+  unfolding breaks
   assignments-same f g agree = go n.what passes
     where
       go : (w : What) → breaks ds all Rule.Reference earlier (same w) ≡ false → is_assignment f (same w) ≡ is_assignment g (same w)

@@ -12,7 +12,7 @@ use Rattle.tagged.specs.Limits.{most_variables}
 use Rattle.tagged.specs.Fields.{unplaced}
 use Rattle.tagged.specs.Stands.{Stands}
 use Rattle.tagged.specs.Refusals.{first_broken}
-use Rattle.declarations.specs.Declarations.{Declaration, declaration_breaks, declaration_tests}
+use Rattle.tagged.specs.Declarations.{Declaration, declaration_breaks}
 use Rattle.tagged.specs.declared.answers.Rule.{Rule}
 use Rattle.tagged.specs.declared.answers.Rule.TheVariants as Rule
 use Rattle.tagged.specs.declared.answers.Found.TheVariants as Found
@@ -20,10 +20,10 @@ use Rattle.tagged.proofs.RefusalLaws.{nowhere-passes}
 use Rattle.tagged.proofs.FoundLaws.{unplaced-append, found-same}
 use Rattle.verilog.specs.Tree.{Module}
 use Rattle.verilog.specs.Nodes.{Node, declaration_nodes, module_nodes}
-use Rattle.verilog.specs.Rules.{is_assignment, is_blocking, some_node, breaks, module_broken, module_tests}
+use Rattle.verilog.specs.Rules.{is_assignment, is_blocking, some_node, breaks, module_broken}
 use Rattle.verilog.proofs.DeclarationsKept.{declaration_node, declared-nodes}
 use Rattle.verilog_check.specs.Tables.{first_code, other_kind, other_process, blocked_elsewhere}
-use Rattle.verilog_check.specs.Judged.{judged, judged_tests}
+use Rattle.verilog_check.specs.Judged.{judged}
 use Rattle.verilog_check.proofs.Firsts.{code_of, first_in}
 use Rattle.verilog_check.proofs.SomeField.{none-member, first-decides}
 use Rattle.verilog_check.proofs.RulesByTables.{process_fields, found_by, undeclared-found}
@@ -31,7 +31,6 @@ use Rattle.verilog_check.proofs.AssignmentCodes.{code-kind, code-process}
 use Rattle.verilog_check.proofs.FirstUnlike.{unlike, unlike_earlier, unlike_first, Alike, first-unlike, nowhere-alike}
 use Rattle.verilog_check.proofs.TestsByCode.{OfAssignments, of-both-kinds, of-two-processes, part_of, undeclared, breaks-by-code, elsewhere, elsewhere-code}
 use Rattle.verilog_check.proofs.Existing.{reads_same, assignments-same}
-use Rattle.tagged.specs.Order.{number_of}
 
 -- declarations are no assignments
 declared-first : (v : ℕ) (ds : List Declaration) (l : List Node) → first_in v (map declaration_node ds ++ l) ≡ first_in v l
@@ -82,14 +81,14 @@ module _ (base : ℕ) (m : Module) where
       (tabled : (v : ℕ) → v < most_variables → get_or firsts v 0 ≡ first_in v (unplaced (process_fields base m)))
       (few : length m.declarations ≤ most_variables) (existing : module_broken base m Rule.Reference ≡ Found.Nowhere) where
     reference-passes : {passed : List Node} {p : ℕ} {n : Node} → Stands (process_fields base m) passed p n → breaks ds all Rule.Reference (map declaration_node ds ++ passed) n ≡ false
-    unfolding declaration_tests number_of
+    unfolding declaration_breaks
     reference-passes s =
         nowhere-passes (breaks ds all Rule.Reference) (map declaration_node ds) s (sym (undeclared-found base m Rule.Reference (λ earlier d. refl)) ∙ existing)
 
     -- 9 and 10 on one assignment, by the table
     judged-by-first : {rule : Rule} (of : OfAssignments rule) (earlier : List Node) (n : Node) → breaks ds all Rule.Reference earlier n ≡ false →
         unlike_first (part_of of) first_of n ≡ judged widths marks firsts rule n
-    unfolding judged_tests number_of
+    unfolding judged
     judged-by-first of-both-kinds earlier n passes =
         assignments-same ds all earlier n passes (λ kind v. not (eqb (first_of v % 2) (first_code (n.in_process + 1) kind % 2))) (other_kind firsts)
         (λ kind v there. rw (tabled v (omega arith), code-kind n.in_process kind))
@@ -119,7 +118,7 @@ module _ (base : ℕ) (m : Module) where
           ∙ ap (elsewhere p) (declared-first v ds (unplaced (process_fields base m)) ∙ sym (tabled v few))
 
       pub reads-found : module_broken base m Rule.ReadElsewhere ≡ found_by widths marks firsts base m Rule.ReadElsewhere
-      unfolding declaration_tests number_of module_tests judged_tests
+      unfolding declaration_breaks breaks judged
       reads-found =
           undeclared-found base m Rule.ReadElsewhere (λ earlier d. refl)
           ∙ found-same (breaks ds all Rule.ReadElsewhere) (λ passed n. judged widths marks firsts Rule.ReadElsewhere n) (map declaration_node ds) [] (process_fields base m)

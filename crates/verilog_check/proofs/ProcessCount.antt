@@ -11,7 +11,7 @@ use Rattle.tagged.specs.Limits.{most_processes}
 use Rattle.tagged.specs.Choice.{choose}
 use Rattle.tagged.specs.Fields.{Placed, unplaced}
 use Rattle.tagged.specs.Refusals.{first_broken, or_else}
-use Rattle.declarations.specs.Declarations.{Declaration}
+use Rattle.tagged.specs.Declarations.{Declaration}
 use Rattle.tagged.specs.declared.answers.Rule.TheVariants as Rule
 use Rattle.tagged.specs.declared.answers.Found.{Found}
 use Rattle.tagged.specs.declared.answers.Found.TheVariants as Found
@@ -19,11 +19,10 @@ use Rattle.tagged.proofs.FoundLaws.{found-append}
 use Rattle.verilog.specs.Tree.{Block}
 use Rattle.verilog.specs.Form.{process_bytes}
 use Rattle.verilog.specs.Nodes.{process, Node, block_nodes, process_nodes}
-use Rattle.verilog.specs.Rules.{one_more, count_processes, by_field, breaks, module_tests}
+use Rattle.verilog.specs.Rules.{one_more, count_processes, by_field, breaks}
 use Rattle.verilog.proofs.DeclarationsKept.{declaration_node}
-use Rattle.verilog_check.specs.Judged.{judged, judged_tests}
+use Rattle.verilog_check.specs.Judged.{judged}
 use Rattle.verilog_check.proofs.EachField.{Each, no_field, one_more_lem, each-fails, each-block}
-use Rattle.tagged.specs.Order.{number_of}
 
 abbrev is_process : Node → Bool
 is_process n = by_field (λ d. false) true (λ e. false) (λ s. false) (λ e w. false) n.what
@@ -60,7 +59,7 @@ module _ (ds : List Declaration) (all : List Node) (widths marks firsts : List �
   past-block : (p at : ℕ) (b : Block) (rest : List (Placed Node)) (before after : List Node) →
       first_broken by_earlier (before ++ unplaced (block_nodes p at b)) rest ≡ first_broken by_number (after ++ unplaced (block_nodes p at b)) rest →
       first_broken by_earlier before (block_nodes p at b ++ rest) ≡ first_broken by_number after (block_nodes p at b ++ rest)
-  unfolding module_tests number_of judged_tests
+  unfolding breaks judged
   past-block p at b rest before after later =
       let none-earlier = each-fails by_earlier before (each-block p (λ e earlier. refl) (λ s earlier. refl) (λ e w earlier. refl) at b) in
       let none-numbered = each-fails by_number after (each-block p (λ e earlier. refl) (λ s earlier. refl) (λ e w earlier. refl) at b) in
@@ -69,7 +68,7 @@ module _ (ds : List Declaration) (all : List Node) (widths marks firsts : List �
 
   pub processes-numbered : (p at : ℕ) (l : List Block) (before after : List Node) → count_processes before ≡ p →
       first_broken (breaks ds all Rule.Count) before (process_nodes p at l) ≡ first_broken (λ earlier n. judged widths marks firsts Rule.Count n) after (process_nodes p at l)
-  unfolding first_broken process_nodes module_tests number_of judged_tests
+  unfolding first_broken process_nodes breaks judged
   processes-numbered p at [] before after counted = refl
   processes-numbered p at (b ∷ l) before after counted =
       let own : Node = record { in_process = p; what = process } in

@@ -6,7 +6,7 @@ use Prim.Native.Nat.{ℕ, ◌+◌}
 use lib.ListN.{length}
 use Rattle.tagged.specs.Fields.{Placed, unplaced, all_bytes_of, placed_by}
 use Rattle.tagged.specs.Refusals.{first_broken, or_else}
-use Rattle.declarations.specs.Declarations.{Declaration, width_of, register_mark, sort_of_declaration, declaration_bytes, declaration_breaks, declaration_broken}
+use Rattle.tagged.specs.Declarations.{Declaration, width_of, register_mark, sort_of_declaration, declaration_bytes, declaration_breaks, declaration_broken}
 use Rattle.tagged.specs.declared.answers.Rule.{Rule}
 use Rattle.tagged.specs.declared.answers.Rule.TheVariants as Rule
 use Rattle.tagged.specs.declared.answers.Found.{Found}
@@ -14,13 +14,12 @@ use Rattle.tagged.proofs.RefusalLaws.{passes-nowhere}
 use Rattle.tagged.proofs.FoundLaws.{or-nowhere, found-same}
 use Rattle.verilog.specs.Tree.{Module}
 use Rattle.verilog.specs.Nodes.{Node, process_nodes, module_nodes}
-use Rattle.verilog.specs.Rules.{breaks, module_broken, module_tests}
+use Rattle.verilog.specs.Rules.{breaks, module_broken}
 use Rattle.verilog.proofs.DeclarationsKept.{declaration_node, module-found}
-use Rattle.verilog_check.specs.Judged.{judged, judged_tests}
+use Rattle.verilog_check.specs.Judged.{judged}
 use Rattle.verilog_check.proofs.EachField.{each-fails, each-process}
 use Rattle.verilog_check.proofs.ProcessCount.{none-declared, processes-numbered}
 use Rattle.verilog_check.proofs.TableTests.{OfDeclarations, no-declaration, test-same}
-use Rattle.tagged.specs.Order.{number_of}
 
 -- where the processes of a module start whose payload starts at `base`
 abbrev pub after_declared : ℕ → Module → ℕ
@@ -51,13 +50,13 @@ module _ (base : ℕ) (m : Module) where
 
   pub value_found : (widths marks firsts : List ℕ) →
       module_broken base m Rule.Value ≡ or_else (declaration_broken Rule.Value base m.declarations) (found_by widths marks firsts base m Rule.Value)
-  unfolding module_tests number_of judged_tests
+  unfolding breaks judged
   value_found widths marks firsts =
       module-found m base Rule.Value ∙ ap (or_else (declaration_broken Rule.Value base ds))
       (found-same (breaks ds all Rule.Value) (λ earlier n. judged widths marks firsts Rule.Value n) (map declaration_node ds) [] (process_fields base m) (λ passed p n s. refl))
 
   pub name-found : module_broken base m Rule.Name ≡ declaration_broken Rule.Name base m.declarations
-  unfolding module_tests number_of
+  unfolding breaks
   name-found =
       module-found m base Rule.Name
       ∙ ap (or_else (declaration_broken Rule.Name base ds))

@@ -7,16 +7,15 @@ use lib.Dec.{leb, eqb}
 use lib.ListN.{length, get_or, length-map}
 use Rattle.words.specs.Widths.{index_within}
 use Rattle.words.specs.Operators.{one_width, two_width}
-use Rattle.declarations.specs.Declarations.{Declaration, input, register, width_of, variable_width, register_at, register_mark, sort_of_declaration, declaration_breaks, declaration_tests}
+use Rattle.tagged.specs.Declarations.{Declaration, input, register, width_of, variable_width, register_at, register_mark, sort_of_declaration, declaration_breaks}
 use Rattle.tagged.specs.declared.sorts.Kind.{Kind}
 use Rattle.tagged.specs.declared.answers.Rule.{Rule}
 use Rattle.tagged.specs.declared.answers.Rule.TheVariants as Rule
 use Rattle.verilog.specs.Tree.{Expression, constant, variable, fixed_bit, chosen_bit, one, two, Statement, assign, assign_bit, if_else, case}
 use Rattle.verilog.specs.Nodes.{Node}
-use Rattle.verilog.specs.Rules.{expression_width, by_field, reads_by, assigns_by, operands_differ, statement_differs, read_outside, write_outside, breaks, module_tests}
+use Rattle.verilog.specs.Rules.{expression_width, by_field, reads_by, assigns_by, operands_differ, statement_differs, read_outside, write_outside, breaks}
 use Rattle.verilog_check.specs.Tables.{variables_of}
-use Rattle.verilog_check.specs.Judged.{judged, judged_tests}
-use Rattle.tagged.specs.Order.{number_of}
+use Rattle.verilog_check.specs.Judged.{judged}
 
 -- variables of the same widths give an expression the same width
 width-by-widths : (cs ds : List Declaration) → map width_of cs ≡ map width_of ds → (e : Expression) → expression_width cs e ≡ expression_width ds e
@@ -82,7 +81,7 @@ pub data OfDeclarations : Rule → Type 0 where
   of-bit-number : OfDeclarations Rule.BitNumber
 
 pub no-declaration : {rule : Rule} → OfDeclarations rule → (earlier : List Declaration) (d : Declaration) → declaration_breaks rule earlier d ≡ false
-unfolding declaration_tests number_of
+unfolding declaration_breaks
 no-declaration of-reference earlier d = refl
 no-declaration of-widths earlier d = refl
 no-declaration of-bit-number earlier d = refl
@@ -93,7 +92,7 @@ module _ (ds : List Declaration) (widths marks firsts : List ℕ) (sized : width
   table_same = sym sized ∙ sym (variables-widths widths)
 
   pub test-same : {rule : Rule} → OfDeclarations rule → (all earlier : List Node) (n : Node) → breaks ds all rule earlier n ≡ judged widths marks firsts rule n
-  unfolding module_tests number_of judged_tests
+  unfolding breaks judged
   test-same of-reference all earlier n =
       ap₂ (λ (reads : ℕ → Bool) (writes : Kind → ℕ → Bool). by_field (λ d. false) false (reads_by reads) (assigns_by writes) (λ e w. false) n.what)
       (fun_ext (λ v. ap (λ (k : ℕ). leb k v) (sym (ap length sized ∙ length-map ds width_of))))

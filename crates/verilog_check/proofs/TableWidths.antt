@@ -3,7 +3,7 @@ use mathlib.Core.Path.{◌≡◌, refl, ap}
 use mathlib.Core.List.{List, [], ◌∷◌, map}
 use Prim.Native.Nat.{ℕ}
 use lib.ListN.{get_or}
-use Rattle.declarations.specs.Declarations.{width_of, variable_width}
+use Rattle.tagged.specs.Declarations.{width_of, variable_width}
 use Rattle.verilog_check.specs.Tables.{variables_of}
 
 -- the width of the variable that a payload's first byte names, from a table of widths

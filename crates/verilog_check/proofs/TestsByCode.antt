@@ -6,18 +6,17 @@ use Prim.Native.Nat.{ℕ, ◌+◌, ◌/◌, ◌%◌}
 use native.Mathlib.Omega.{arith}
 use lib.Dec.{eqb}
 use borrow.Author.Tests.{eqb-true, eqb-false, eq-eqb, ne_eqb}
-use Rattle.declarations.specs.Declarations.{Declaration, declaration_breaks, declaration_tests}
+use Rattle.tagged.specs.Declarations.{Declaration, declaration_breaks}
 use Rattle.tagged.specs.declared.sorts.Kind.{Kind}
 use Rattle.tagged.specs.declared.sorts.Kind.TheVariants as Kind
 use Rattle.tagged.specs.declared.answers.Rule.{Rule}
 use Rattle.tagged.specs.declared.answers.Rule.TheVariants as Rule
 use Rattle.verilog.specs.Nodes.{Node}
-use Rattle.verilog.specs.Rules.{is_assignment, is_blocking, same_kind, some_node, breaks, module_tests}
+use Rattle.verilog.specs.Rules.{is_assignment, is_blocking, same_kind, some_node, breaks}
 use Rattle.verilog_check.specs.Tables.{kind_bit, first_code}
 use Rattle.verilog_check.proofs.Firsts.{code_of}
 use Rattle.verilog_check.proofs.AssignmentCodes.{code-some, code-kind, code-process, assignment-code}
 use Rattle.verilog_check.proofs.FirstUnlike.{unlike, unlike_earlier}
-use Rattle.tagged.specs.Order.{number_of}
 
 -- rules 9 and 10, and the part of a code that each asks for
 pub data OfAssignments : Rule → Type 0 where
@@ -29,7 +28,7 @@ part_of of-both-kinds code = code % 2
 part_of of-two-processes code = code / 2
 
 pub undeclared : {rule : Rule} → OfAssignments rule → (earlier : List Declaration) (d : Declaration) → declaration_breaks rule earlier d ≡ false
-unfolding declaration_tests number_of
+unfolding declaration_breaks
 undeclared of-both-kinds earlier d = refl
 undeclared of-two-processes earlier d = refl
 
@@ -71,7 +70,7 @@ processes-as-parts q other p kind = rw (code-process q other, code-process p kin
 
 module _ (ds : List Declaration) (all : List Node) where
   pub breaks-by-code : {rule : Rule} (of : OfAssignments rule) (earlier : List Node) (n : Node) → breaks ds all rule earlier n ≡ unlike_earlier (part_of of) earlier n
-  unfolding module_tests number_of
+  unfolding breaks
   breaks-by-code of-both-kinds earlier n = earlier-by-code (λ code. code % 2) (λ q other p kind. not (same_kind other kind)) kinds-as-parts earlier n
   breaks-by-code of-two-processes earlier n = earlier-by-code (λ code. code / 2) (λ q other p kind. not (eqb q p)) processes-as-parts earlier n
 

@@ -21,7 +21,7 @@ use Rattle.verilog.specs.Nodes.{expression, Node, node_at, expression_nodes}
 use Rattle.verilog.proofs.ExpressionBytes.{expression_at, expression-read, some-depth, payload-short}
 use Rattle.verilog.proofs.WrittenFields.{front-field}
 use Rattle.verilog_check.specs.Walk.{Judge, Walker, walk_all, before_operands, walk_expression}
-use Rattle.verilog_check.proofs.WalkFields.{earliest_of, Walked, walk_none, walk-last, walk-joined}
+use Rattle.verilog_check.proofs.WalkFields.{lowest_of, Walked, walk_none, walk-last, walk-joined}
 
 -- what a field is refused for, by the number of its process
 abbrev pub of_node : (ℕ → Judge) → Node → ℕ → Answer
@@ -29,7 +29,7 @@ of_node judge n at = judge n.in_process n.what at
 
 -- what these fields are refused for, each by itself
 abbrev pub fields_answer : (ℕ → Judge) → List (Placed Node) → Answer
-fields_answer judge l = earliest_of (of_node judge) l
+fields_answer judge l = lowest_of (of_node judge) l
 
 -- what stands in an expression's payload is the expression
 expression-inside : (d : ℕ) (e : Expression) → FitsExpression e → expression_depth e ≤ suc d → length (expression_bytes e) ≤ longest_field →

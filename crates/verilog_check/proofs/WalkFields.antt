@@ -6,16 +6,14 @@ use Prim.Native.Nat.{ℕ, ◌+◌, ◌<◌}
 use lib.ListN.{length}
 use Rattle.tagged.specs.Sorts.{tag_of}
 use Rattle.tagged.specs.Fields.{Placed, field_bytes, fields_at, read_from}
-use Rattle.tagged.specs.Order.{looked_for}
-use Rattle.tagged.specs.Refusals.{first_broken, found_if, first_refusal, earlier_refusal}
+use Rattle.tagged.specs.Refusals.{first_broken, found_if, first_refusal, lower_refusal}
 use Rattle.tagged.specs.declared.sorts.Sort.{Sort}
 use Rattle.tagged.specs.declared.answers.Rule.{Rule}
 use Rattle.tagged.specs.declared.answers.Answer.{Answer}
 use Rattle.tagged.specs.declared.answers.Answer.TheVariants as Answer
-use Rattle.tagged.specs.declared.answers.Found.TheVariants as Found
-use Rattle.tagged.proofs.RefusalLaws.{each-accepted}
+use Rattle.tagged.proofs.RefusalLaws.{Rising}
 use Rattle.tagged.proofs.FoundLaws.{found-same}
-use Rattle.tagged.proofs.EarlierLaws.{earlier-accepted, earlier-joined, refusal-same, answer-front}
+use Rattle.tagged.proofs.LowerLaws.{lower-accepted, lower-joined, refusal-same, refusal-nowhere, answer-front}
 use Rattle.tagged.proofs.FieldLists.{fields-written}
 use Rattle.tagged.proofs.ListBytes.{field-length}
 use Rattle.tagged.proofs.SortLaws.{sort-back}
@@ -23,23 +21,23 @@ use Rattle.verilog_check.specs.Walk.{Walker, walk_all}
 
 -- elements that are judged each by itself, at its place
 module _ {A : Type 0} (judge : A → ℕ → Answer) where
-  abbrev pub earliest_of : List (Placed A) → Answer
-  earliest_of [] = Answer.Accepted
-  earliest_of (x ∷ l) = earlier_refusal (judge x.what x.place) (earliest_of l)
+  abbrev pub lowest_of : List (Placed A) → Answer
+  lowest_of [] = Answer.Accepted
+  lowest_of (x ∷ l) = lower_refusal (judge x.what x.place) (lowest_of l)
 
   -- one list, and then the other
-  pub earliest-append : (l m : List (Placed A)) → earliest_of (l ++ m) ≡ earlier_refusal (earliest_of l) (earliest_of m)
-  earliest-append [] m = refl
-  earliest-append (x ∷ l) m = ap (earlier_refusal (judge x.what x.place)) (earliest-append l m) ∙ sym (earlier-joined (judge x.what x.place) (earliest_of l) (earliest_of m))
+  pub lowest-append : (l m : List (Placed A)) → lowest_of (l ++ m) ≡ lower_refusal (lowest_of l) (lowest_of m)
+  lowest-append [] m = refl
+  lowest-append (x ∷ l) m = ap (lower_refusal (judge x.what x.place)) (lowest-append l m) ∙ sym (lower-joined (judge x.what x.place) (lowest_of l) (lowest_of m))
 
--- where the judge gives the first rule that a field breaks, they all are refused for the first rule that one of them breaks, at the first place
-pub earliest-first : {A : Type 0} (test : Rule → A → Bool) (l : List (Placed A)) →
-    earliest_of (λ a at. first_refusal (λ rule. found_if (test rule a) at)) l ≡ first_refusal (λ rule. first_broken (λ earlier a. test rule a) [] l)
+-- where the judge looks for rules in rising order, they all are refused for the first rule that one of them breaks, at the first place
+pub lowest-first : {A : Type 0} (test : Rule → A → Bool) {from : ℕ} {rules : List Rule} → Rising from rules → (l : List (Placed A)) →
+    lowest_of (λ a at. first_refusal (λ rule. found_if (test rule a) at) rules) l ≡ first_refusal (λ rule. first_broken (λ earlier a. test rule a) [] l) rules
 unfolding first_broken
-earliest-first test [] = sym (each-accepted (λ rule. Found.Nowhere) (λ rule. refl))
-earliest-first {A} test (x ∷ l) =
-    ap (earlier_refusal (first_refusal (λ rule. found_if (test rule x.what) x.place))) (earliest-first test l ∙ refusal-same _ _ any-earlier looked_for)
-    ∙ sym (answer-front (λ rule earlier a. test rule a) [] x l)
+lowest-first test {rules = rules} r [] = sym (refusal-nowhere rules)
+lowest-first {A} test {rules = rules} r (x ∷ l) =
+    ap (lower_refusal (first_refusal (λ rule. found_if (test rule x.what) x.place) rules)) (lowest-first test r l ∙ refusal-same _ _ any-earlier rules)
+    ∙ sym (answer-front (λ rule earlier a. test rule a) [] x l r)
   where
     any-earlier : (rule : Rule) → first_broken (λ earlier a. test rule a) [] l ≡ first_broken (λ earlier a. test rule a) (x.what ∷ []) l
     any-earlier rule = found-same (λ passed a. test rule a) (λ passed a. test rule a) [] (x.what ∷ []) l (λ passed p a s. refl)
@@ -59,7 +57,7 @@ walk_none walk at = refl
 
 module _ {walk : Walker} {at : ℕ} {bytes : List ℕ} {answer : Answer} (w : Walked walk at bytes answer) where
   -- the field, and then what follows it
-  walk-then : (after : List ℕ) → walk_all walk (fields_at at (bytes ++ after)) ≡ earlier_refusal answer (walk_all walk (fields_at (at + length bytes) after))
+  walk-then : (after : List ℕ) → walk_all walk (fields_at at (bytes ++ after)) ≡ lower_refusal answer (walk_all walk (fields_at (at + length bytes) after))
   unfolding walk_all
   walk-then after =
       rw (w.field, fields-written at (tag_of w.sort) w.payload after w.short, sort-back w.sort, w.gives, field-length (tag_of w.sort) w.payload)
@@ -68,12 +66,12 @@ module _ {walk : Walker} {at : ℕ} {bytes : List ℕ} {answer : Answer} (w : Wa
   pub walk-last : walk_all walk (fields_at at bytes) ≡ answer
   walk-last =
       ap (λ (l : List ℕ). walk_all walk (fields_at at l)) (sym (append-nil bytes))
-      ∙ walk-then [] ∙ ap (earlier_refusal answer) (walk_none walk (at + length bytes)) ∙ earlier-accepted answer
+      ∙ walk-then [] ∙ ap (lower_refusal answer) (walk_none walk (at + length bytes)) ∙ lower-accepted answer
 
 -- a field, and then what follows it, where each is refused for what some elements are
-pub walk-joined : {A : Type 0} (judge : A → ℕ → Answer) (l m : List (Placed A)) {walk : Walker} {at : ℕ} {bytes : List ℕ} → Walked walk at bytes (earliest_of judge l) →
-    (after : List ℕ) (next : ℕ) → at + length bytes ≡ next → walk_all walk (fields_at next after) ≡ earliest_of judge m →
-    walk_all walk (fields_at at (bytes ++ after)) ≡ earliest_of judge (l ++ m)
+pub walk-joined : {A : Type 0} (judge : A → ℕ → Answer) (l m : List (Placed A)) {walk : Walker} {at : ℕ} {bytes : List ℕ} → Walked walk at bytes (lowest_of judge l) →
+    (after : List ℕ) (next : ℕ) → at + length bytes ≡ next → walk_all walk (fields_at next after) ≡ lowest_of judge m →
+    walk_all walk (fields_at at (bytes ++ after)) ≡ lowest_of judge (l ++ m)
 walk-joined judge l m {walk} w after next place found =
     walk-then w after
-    ∙ ap (λ (n : ℕ). earlier_refusal (earliest_of judge l) (walk_all walk (fields_at n after))) place ∙ ap (earlier_refusal (earliest_of judge l)) found ∙ sym (earliest-append judge l m)
+    ∙ ap (λ (n : ℕ). lower_refusal (lowest_of judge l) (walk_all walk (fields_at n after))) place ∙ ap (lower_refusal (lowest_of judge l)) found ∙ sym (lowest-append judge l m)

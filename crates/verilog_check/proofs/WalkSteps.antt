@@ -6,10 +6,9 @@ use native.Mathlib.Numerals.{sub-one}
 use native.Mathlib.Omega.{arith}
 use lib.ListN.{length, get_or, take, drop, length-take, drop_of_length-le}
 use types.Run.{miss}
-use Rattle.tagged.specs.Limits.{statement_levels}
 use Rattle.tagged.specs.Sorts.{on_expression, on_statement}
 use Rattle.tagged.specs.Fields.{open_of, Placed, Field, fields_at}
-use Rattle.tagged.specs.Refusals.{earlier_refusal}
+use Rattle.tagged.specs.Refusals.{lower_refusal}
 use Rattle.tagged.specs.declared.sorts.StatementSort.{StatementSort}
 use Rattle.tagged.specs.declared.sorts.ExpressionSort.{ExpressionSort}
 use Rattle.tagged.specs.declared.sorts.Sort.{Sort}
@@ -19,7 +18,7 @@ use Rattle.tagged.specs.declared.fields.Opened.TheVariants as Opened
 use Rattle.tagged.specs.declared.answers.Answer.{Answer}
 use Rattle.tagged.specs.declared.answers.Answer.TheVariants as Answer
 use Rattle.tagged.proofs.ByteLaws.{rest}
-use Rattle.tagged.proofs.EarlierLaws.{earlier-accepted, earlier-joined}
+use Rattle.tagged.proofs.LowerLaws.{lower-accepted, lower-joined}
 use Rattle.tagged.proofs.SortLaws.{is-itself}
 use Rattle.tagged.proofs.FieldLists.{fields-none, field-within, field-more, field-none}
 use Rattle.verilog.specs.Tree.{Expression, constant}
@@ -31,7 +30,7 @@ use Rattle.verilog_check.specs.Walk.{Judge, Walker, walk_all, before_operands, b
 -- a walk over fields, `here`, judges the first by `walk` and goes on by `further`
 pub record Steps (here further : List (Placed Field) → Answer) (walk : Walker) : Type 0 where
   pub none : here [] ≡ Answer.Accepted
-  pub some : (x : Placed Field) (l : List (Placed Field)) → here (x ∷ l) ≡ earlier_refusal (walk x.place x.what.sort x.what.payload) (further l)
+  pub some : (x : Placed Field) (l : List (Placed Field)) → here (x ∷ l) ≡ lower_refusal (walk x.place x.what.sort x.what.payload) (further l)
 
 pub all-steps : (walk : Walker) → Steps (walk_all walk) (walk_all walk) walk
 unfolding walk_all
@@ -51,27 +50,27 @@ payload-within l at opened found s n e p cut =
 
 -- a loop over the fields of a list that has come to the index `at`, where `best` and what is left give what the whole list does
 module _ {here further : List (Placed Field) → Answer} {walk : Walker} (steps : Steps here further walk) (whole best : Answer) (base : ℕ) (l : List ℕ) (at : ℕ)
-    (going : whole ≡ earlier_refusal best (here (fields_at (base + at) (drop at l)))) (opened : Opened) (found : opened ≡ open_of 0 0 (take (length l - at) (drop at l))) where
+    (going : whole ≡ lower_refusal best (here (fields_at (base + at) (drop at l)))) (opened : Opened) (found : opened ≡ open_of 0 0 (take (length l - at) (drop at l))) where
   pub walk-done : (x : ℕ) → opened ≡ Opened.Refused x → best ≡ whole
-  walk-done x e = sym (going ∙ rw (field-none l at opened found base x e, steps.none) (earlier-accepted best))
+  walk-done x e = sym (going ∙ rw (field-none l at opened found base x e, steps.none) (lower-accepted best))
 
   pub walk-next : (s : Sort) (n : ℕ) → opened ≡ Opened.Field s n → (p : List ℕ) → p ≡ take n (drop (at + 3) l) → (r : Answer) → r ≡ walk (base + at) s p →
-      (better : Answer) → better ≡ earlier_refusal best r → whole ≡ earlier_refusal better (further (fields_at (base + (at + 3 + n)) (drop (at + 3 + n) l)))
+      (better : Answer) → better ≡ lower_refusal best r → whole ≡ lower_refusal better (further (fields_at (base + (at + 3 + n)) (drop (at + 3 + n) l)))
   walk-next s n e p cut r tried better joined =
       let later : Answer = further (fields_at (base + (at + 3 + n)) (drop (at + 3 + n) l)) in
-      let turn : whole ≡ earlier_refusal best (earlier_refusal r later) = rw (going, field-more l at opened found base s n e, steps.some, tried, cut) in
-      turn ∙ sym (earlier-joined best r later) ∙ rw joined
+      let turn : whole ≡ lower_refusal best (lower_refusal r later) = rw (going, field-more l at opened found base s n e, steps.some, tried, cut) in
+      turn ∙ sym (lower-joined best r later) ∙ rw joined
 
 -- a field that is refused by itself for `own`, and then what it holds
 pub record OwnFirst (whole own inner : Answer) : Type 0 where
-  pub step : whole ≡ earlier_refusal own inner
+  pub step : whole ≡ lower_refusal own inner
 
 module _ {whole own inner : Answer} (first : OwnFirst whole own inner) where
   -- it holds nothing
   pub own_alone : Answer.Accepted ≡ inner → own ≡ whole
-  own_alone empty = sym (first.step ∙ rw (← empty) (earlier-accepted own))
+  own_alone empty = sym (first.step ∙ rw (← empty) (lower-accepted own))
 
-  pub own-joined : (inside : Answer) → inside ≡ inner → (r : Answer) → r ≡ earlier_refusal own inside → r ≡ whole
+  pub own-joined : (inside : Answer) → inside ≡ inner → (r : Answer) → r ≡ lower_refusal own inside → r ≡ whole
   own-joined inside is r joined = rw (first.step, joined, is)
 
 -- what stands behind so many fixed bytes, as the code has it
@@ -89,7 +88,7 @@ module _ (walk : Walker) (base : ℕ) (l : List ℕ) (fixed before : ℕ) (same 
 -- an expression, by the levels that are left and by its sort
 expression-step : (judge : Judge) (d : ℕ) → (d ≡ 0 → ⊥) → (at : ℕ) (s : Sort) (l : List ℕ) → walk_expression judge d at s l ≡
     on_expression s
-    (λ e. earlier_refusal (judge (expression (expression_with (expression_in (d - 1)) e l)) at)
+    (λ e. lower_refusal (judge (expression (expression_with (expression_in (d - 1)) e l)) at)
     (walk_all (walk_expression judge (d - 1)) (fields_at (at + 3 + before_operands e) (drop (before_operands e) l))))
     Answer.Accepted
 unfolding walk_expression
@@ -112,7 +111,7 @@ module _ (judge : Judge) (d at : ℕ) (s : Sort) (l : List ℕ) where
 -- a statement
 statement-step : (judge : Judge) (width : Expression → ℕ) (d : ℕ) → (d ≡ 0 → ⊥) → (at : ℕ) (s : Sort) (l : List ℕ) → walk_statement judge width d at s l ≡
     on_statement s
-    (λ t. earlier_refusal (judge (statement (statement_of (d - 1) t l)) at)
+    (λ t. lower_refusal (judge (statement (statement_of (d - 1) t l)) at)
     (walk_all (walk_part judge width (d - 1) (selector_width width (d - 1) l)) (fields_at (at + 3 + before_parts t) (drop (before_parts t) l))))
     Answer.Accepted
 unfolding walk_statement
@@ -188,6 +187,6 @@ module _ (judge : Judge) (width : Expression → ℕ) (at : ℕ) (s : Sort) (l :
   process-other k = rw (is-missed Sort.Process s but_process tt k)
 
   pub process-of : s ≡ Sort.Process → (own : Answer) → own ≡ judge process at →
-      OwnFirst (walk_process judge width at s l) own (walk_all (walk_statement judge width statement_levels) (fields_at (at + 3) l))
+      OwnFirst (walk_process judge width at s l) own (walk_all (walk_statement judge width 30) (fields_at (at + 3) l))
   unfolding walk_process
   process-of q own b = record { step = rw (q, is-itself Sort.Process, b) }

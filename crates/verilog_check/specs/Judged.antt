@@ -1,32 +1,34 @@
 -- Rules 3 and 5 to 11 on one field of a process, by what is known of the variables. In this form a rule asks for no other field:
 -- an assignment is held against the first one to its variable.
-use Rattle.std.specs.Prelude.{Bool, false, List, [], ◌∷◌, ℕ, leb, eqb, length, get_or}
+use Rattle.std.specs.Prelude.{Bool, false, List, [], ℕ, leb, eqb, length, get_or}
 use Rattle.tagged.specs.Limits.{most_processes}
-use Rattle.tagged.specs.Refusals.{For, ◌by◌, for_rule, found_if, first_refusal}
+use Rattle.tagged.specs.Refusals.{found_if, first_refusal}
 use Rattle.tagged.specs.declared.answers.Rule.{Rule}
 use Rattle.tagged.specs.declared.answers.Rule.TheVariants as Rule
 use Rattle.tagged.specs.declared.answers.Answer.{Answer}
 use Rattle.verilog.specs.Nodes.{What, Node}
 use Rattle.verilog.specs.Rules.{by_field, reads_by, assigns_by, is_assignment, is_read, breaks}
+use Rattle.verilog.specs.Answer.{module_rules}
 use Rattle.verilog_check.specs.Tables.{variables_of, other_kind, other_process, blocked_elsewhere}
 
--- the rules that a field of a process can break, each with its test of one
-unfoldable pub judged_tests : List ℕ → List ℕ → List ℕ → List (For (Node → Bool))
-judged_tests widths marks firsts =
-    Rule.Value by breaks [] [] Rule.Value []
-    ∷ Rule.Count by (λ n. by_field (λ d. false) (leb most_processes n.in_process) (λ e. false) (λ s. false) (λ e w. false) n.what)
-    ∷ Rule.Reference by (λ n.
-    by_field (λ d. false) false (reads_by (λ v. leb (length widths) v)) (assigns_by (λ kind v. eqb (get_or marks v 0) 0)) (λ e w. false) n.what)
-    ∷ Rule.Widths by breaks (variables_of widths) [] Rule.Widths []
-    ∷ Rule.BitNumber by breaks (variables_of widths) [] Rule.BitNumber []
-    ∷ Rule.BothKinds by is_assignment (other_kind firsts)
-    ∷ Rule.TwoProcesses by (λ n. is_assignment (λ kind v. other_process firsts n.in_process v) n)
-    ∷ Rule.ReadElsewhere by (λ n. is_read (blocked_elsewhere firsts n.in_process) n)
-    ∷ []
-
 -- does a field break this rule?
-abbrev pub judged : List ℕ → List ℕ → List ℕ → Rule → Node → Bool
-judged widths marks firsts rule = for_rule (λ n. false) (judged_tests widths marks firsts) rule
+unfoldable pub judged : List ℕ → List ℕ → List ℕ → Rule → Node → Bool
+judged widths marks firsts Rule.Value n = breaks [] [] Rule.Value [] n
+judged widths marks firsts Rule.Count n =
+    by_field (λ d. false) (leb most_processes n.in_process) (λ e. false) (λ s. false) (λ e w. false) n.what
+judged widths marks firsts Rule.Reference n =
+    by_field (λ d. false) false (reads_by (λ v. leb (length widths) v)) (assigns_by (λ kind v. eqb (get_or marks v 0) 0)) (λ e w. false) n.what
+judged widths marks firsts Rule.Widths n = breaks (variables_of widths) [] Rule.Widths [] n
+judged widths marks firsts Rule.BitNumber n = breaks (variables_of widths) [] Rule.BitNumber [] n
+judged widths marks firsts Rule.BothKinds n = is_assignment (other_kind firsts) n
+judged widths marks firsts Rule.TwoProcesses n = is_assignment (λ kind v. other_process firsts n.in_process v) n
+judged widths marks firsts Rule.ReadElsewhere n = is_read (blocked_elsewhere firsts n.in_process) n
+judged widths marks firsts Rule.Name n = false
+judged widths marks firsts Rule.FileLength n = false
+judged widths marks firsts Rule.Form n = false
+judged widths marks firsts Rule.Cells n = false
+judged widths marks firsts Rule.Buffer n = false
+judged widths marks firsts Rule.Row n = false
 
 -- the same, of a field in process number p
 abbrev pub judged_in : List ℕ → List ℕ → List ℕ → Rule → ℕ → What → Bool
@@ -34,4 +36,4 @@ judged_in widths marks firsts rule p w = judged widths marks firsts rule (record
 
 -- the first rule that such a field breaks, at its place
 abbrev pub field_answer : List ℕ → List ℕ → List ℕ → ℕ → What → ℕ → Answer
-field_answer widths marks firsts p w at = first_refusal (λ rule. found_if (judged_in widths marks firsts rule p w) at)
+field_answer widths marks firsts p w at = first_refusal (λ rule. found_if (judged_in widths marks firsts rule p w) at) module_rules

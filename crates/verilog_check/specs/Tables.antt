@@ -1,6 +1,6 @@
 -- What the code knows of the variables, in tables: the width of each, 1 for a register, and the first assignment to it.
 use Rattle.std.specs.Prelude.{Bool, cond, ◌&&◌, not, List, [], map, ℕ, ◌+◌, ◌*◌, ◌/◌, ◌%◌, eqb, get_or, set}
-use Rattle.declarations.specs.Declarations.{Declaration, input}
+use Rattle.tagged.specs.Declarations.{Declaration, input}
 use Rattle.tagged.specs.declared.sorts.Kind.{Kind}
 use Rattle.tagged.specs.declared.sorts.Kind.TheVariants as Kind
 

@@ -1,10 +1,9 @@
 -- What a part of a file is refused for, by one walk over the bytes: each field by itself first, then those that it holds, in order.
 -- `judge` tells what a field at a place is refused for, `width` gives an expression's width; the number d is how many levels may be opened.
 use Rattle.std.specs.Prelude.{cond, List, [], ◌∷◌, ℕ, zero, suc, ◌+◌, get_or, drop}
-use Rattle.tagged.specs.Limits.{statement_levels}
 use Rattle.tagged.specs.Sorts.{on_statement, on_expression, is_sort}
 use Rattle.tagged.specs.Fields.{Placed, Field, fields_at}
-use Rattle.tagged.specs.Refusals.{earlier_refusal}
+use Rattle.tagged.specs.Refusals.{lower_refusal}
 use Rattle.tagged.specs.declared.sorts.StatementSort.{StatementSort}
 use Rattle.tagged.specs.declared.sorts.StatementSort.TheVariants as StatementSort
 use Rattle.tagged.specs.declared.sorts.ExpressionSort.{ExpressionSort}
@@ -28,7 +27,7 @@ Walker = ℕ → Sort → List ℕ → Answer
 -- the fields of a list, one after the other
 unfoldable pub walk_all : Walker → List (Placed Field) → Answer
 walk_all walk [] = Answer.Accepted
-walk_all walk (x ∷ l) = earlier_refusal (walk x.place x.what.sort x.what.payload) (walk_all walk l)
+walk_all walk (x ∷ l) = lower_refusal (walk x.place x.what.sort x.what.payload) (walk_all walk l)
 
 -- how many bytes stand before an expression's operands, or a statement's first inner field
 abbrev pub before_operands : ExpressionSort → ℕ
@@ -50,7 +49,7 @@ unfoldable pub walk_expression : Judge → ℕ → Walker
 walk_expression judge zero at s l = Answer.Accepted
 walk_expression judge (suc d) at s l =
     on_expression s
-    (λ e. earlier_refusal (judge (expression (expression_with (expression_in d) e l)) at)
+    (λ e. lower_refusal (judge (expression (expression_with (expression_in d) e l)) at)
     (walk_all (walk_expression judge d) (fields_at (at + 3 + before_operands e) (drop (before_operands e) l))))
     Answer.Accepted
 
@@ -78,7 +77,7 @@ selector_width width d l = width (expression_in d l)
 
 -- an item by itself, and then what it holds; only the width of its case's selector counts
 abbrev pub item_first : Judge → ℕ → ℕ → List ℕ → Answer → Answer
-item_first judge w at l inner = earlier_refusal (judge (item_of (constant w 0) (front_by (λ t p. get_or p 0 0) 0 l)) at) inner
+item_first judge w at l inner = lower_refusal (judge (item_of (constant w 0) (front_by (λ t p. get_or p 0 0) 0 l)) at) inner
 
 unfoldable mutual
   -- a statement, then its expressions, items and blocks
@@ -86,7 +85,7 @@ unfoldable mutual
   walk_statement judge width zero at s l = Answer.Accepted
   walk_statement judge width (suc d) at s l =
       on_statement s
-      (λ t. earlier_refusal (judge (statement (statement_of d t l)) at)
+      (λ t. lower_refusal (judge (statement (statement_of d t l)) at)
       (walk_all (λ a u p. walk_part judge width d (selector_width width d l) a u p) (fields_at (at + 3 + before_parts t) (drop (before_parts t) l))))
       Answer.Accepted
 
@@ -102,13 +101,13 @@ unfoldable mutual
 abbrev pub walk_item : Judge → (Expression → ℕ) → ℕ → ℕ → ℕ → List ℕ → Answer
 walk_item judge width d w at l = item_first judge w at l (walk_all (walk_part judge width d w) (fields_at (at + 3) l))
 
--- a process, then its statements
+-- a process, then its statements, which have 30 levels left
 unfoldable pub walk_process : Judge → (Expression → ℕ) → Walker
 walk_process judge width at s l =
-    cond (is_sort Sort.Process s) (earlier_refusal (judge process at) (walk_all (walk_statement judge width statement_levels) (fields_at (at + 3) l))) Answer.Accepted
+    cond (is_sort Sort.Process s) (lower_refusal (judge process at) (walk_all (walk_statement judge width 30) (fields_at (at + 3) l))) Answer.Accepted
 
 -- processes, from number p on
 unfoldable pub walk_processes : (ℕ → Judge) → (Expression → ℕ) → ℕ → List (Placed Field) → Answer
 walk_processes judge width p [] = Answer.Accepted
 walk_processes judge width p (x ∷ l) =
-    earlier_refusal (walk_process (judge p) width x.place x.what.sort x.what.payload) (walk_processes judge width (p + 1) l)
+    lower_refusal (walk_process (judge p) width x.place x.what.sort x.what.payload) (walk_processes judge width (p + 1) l)

@@ -10,11 +10,9 @@ ghost use Rattle.verilog.specs.Reading.{module_in};
 
 use crate::survey::survey;
 use crate::walk::processes_answer;
-use declarations::form::declared_bytes;
-use declarations::rules::declarations_answer;
-use declarations::table::{told, variable_table};
 use tagged::answers::Answer;
 use tagged::bytes::from;
+use tagged::declarations::{declarations_answer, declared_bytes, told, variable_table};
 use tagged::limits::Variables;
 
 // The answer of a file to which refusals 1 and 2 do not apply.
@@ -33,5 +31,5 @@ pub fn tree_answer(file: &[u8]) -> Answer
     survey(list, &mut firsts);
     let declared = declarations_answer(payload, 3);
     let processes = processes_answer(&widths[..count], &marks[..count], &firsts, list, 3 + bytes);
-    declared.or_earlier(processes)
+    declared.or_lower(processes)
 }

@@ -9,7 +9,8 @@ ghost use Rattle.verilog_check.specs.Walk.{before_operands, before_parts, walk_a
 
 use crate::judge::{judge_expression, judge_item, judge_process, judge_statement, width_of};
 use tagged::answers::Answer;
-use tagged::fields::{Opened, open_field, payload_at};
+use tagged::declarations::payload_at;
+use tagged::fields::{Opened, open_field};
 use tagged::limits::Depth;
 use tagged::sorts::{ExpressionSort, Sort, StatementSort};
 
@@ -71,7 +72,7 @@ fn expression(
                 at + 3 + fixed,
                 depth - 1,
             );
-            own.or_earlier(inside)
+            own.or_lower(inside)
         }
         _ => Answer::Accepted,
     }
@@ -97,7 +98,7 @@ fn operands(
             Opened::Field(sort, size) => {
                 let payload = payload_at(list, at, size);
                 let field = expression(process, widths, firsts, sort, payload, base + at, depth);
-                best = best.or_earlier(field);
+                best = best.or_lower(field);
                 at = at + 3 + size;
             }
             Opened::Refused(_) => {
@@ -153,7 +154,7 @@ fn statement(
                 at + 3 + fixed,
                 depth - 1,
             );
-            own.or_earlier(inside)
+            own.or_lower(inside)
         }
         _ => Answer::Accepted,
     }
@@ -192,7 +193,7 @@ fn parts(
                     base + at,
                     depth,
                 );
-                best = best.or_earlier(field);
+                best = best.or_lower(field);
                 at = at + 3 + size;
             }
             Opened::Refused(_) => {
@@ -266,7 +267,7 @@ fn item(
         at + 3,
         depth,
     );
-    own.or_earlier(inside)
+    own.or_lower(inside)
 }
 
 // The statements of a block or of a process.
@@ -300,7 +301,7 @@ fn statements(
                     base + at,
                     depth,
                 );
-                best = best.or_earlier(field);
+                best = best.or_lower(field);
                 at = at + 3 + size;
             }
             Opened::Refused(_) => {
@@ -336,7 +337,7 @@ fn process_answer(
                 at + 3,
                 Depth::MAX - 2,
             );
-            own.or_earlier(inside)
+            own.or_lower(inside)
         }
         _ => Answer::Accepted,
     }
@@ -370,7 +371,7 @@ pub fn processes_answer(
                     payload,
                     base + at,
                 );
-                best = best.or_earlier(field);
+                best = best.or_lower(field);
                 at = at + 3 + size;
                 process = process + 1;
             }

@@ -9,17 +9,17 @@ use lib.ListN.{length, get_or, take, drop, length-map}
 use lib.Seq.{sets}
 use borrow.Author.Tests.{eq-eqb}
 use Rattle.words.specs.Values.{Outcome, got}
-use Rattle.tagged.specs.Limits.{most_variables, process_levels}
+use Rattle.tagged.specs.Limits.{most_variables}
 use Rattle.tagged.specs.Bytes.{AllBytes}
 use Rattle.tagged.specs.Fields.{all_bytes_of, passed_bytes, unplaced}
-use Rattle.declarations.specs.Declarations.{width_of, declarations_in, declarations_step, variable_table}
-use Rattle.declarations.specs.Rows.{row_bytes, row_numbers, row_answer, all_fit}
-use Rattle.declarations.specs.Runs.{row_left}
-use Rattle.declarations.specs.declared.table.VariableTable.{VariableTable}
+use Rattle.tagged.specs.Declarations.{width_of, declarations_in, declarations_step, variable_table}
+use Rattle.tagged.specs.Rows.{row_bytes, row_numbers, row_answer, all_fit}
+use Rattle.tagged.specs.Runs.{row_left}
+use Rattle.tagged.specs.declared.declarations.VariableTable.{VariableTable}
 use Rattle.tagged.specs.declared.answers.Answer.TheVariants as Answer
 use Rattle.tagged.proofs.WriteLaws.{sets-all}
-use Rattle.declarations.proofs.RowLaws.{bytes-length, fits-length, numbers-front, RowAccepted, row-accepted}
-use Rattle.declarations.proofs.TableLaws.{widths-all}
+use Rattle.tagged.proofs.RowLaws.{bytes-length, fits-length, numbers-front, RowAccepted, row-accepted}
+use Rattle.tagged.proofs.TableLaws.{widths-all}
 use Rattle.verilog.specs.Tree.{Module}
 use Rattle.verilog.specs.Form.{process_bytes}
 use Rattle.verilog.specs.Fits.{FitsModule, processes_depth}
@@ -44,7 +44,7 @@ use Rattle.verilog_run.proofs.SettledLaws.{settled-agree}
 
 -- the cycle of a tree that is accepted, from a row that fits, by the bytes of its processes and a table of first assignments
 module _ (m : Module) (accepted : tree_answer 3 m ≡ Answer.Accepted) (few : length m.declarations ≤ most_variables) (fits : FitsModule m)
-    (deep : processes_depth m.processes ≤ process_levels) (long : length (all_bytes_of process_bytes m.processes) ≤ 16384)
+    (deep : processes_depth m.processes ≤ 31) (long : length (all_bytes_of process_bytes m.processes) ≤ 16384)
     (firsts : List ℕ) (told : (v : ℕ) → v < most_variables → get_or firsts v 0 ≡ first_in v (unplaced (process_fields 3 m)))
     (row : List ℕ) (fit : all_fit (map width_of m.declarations) row ≡ true) where
   abbrev widths : List ℕ

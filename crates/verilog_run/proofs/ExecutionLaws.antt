@@ -11,11 +11,10 @@ use borrow.Author.Tests.{eq-eqb, lt-ltb}
 use Rattle.words.specs.Limits.{greatest_width}
 use Rattle.words.specs.Values.{Outcome, got}
 use Rattle.words.proofs.ResultLaws.{put-inside}
-use Rattle.tagged.specs.Limits.{process_levels, statement_levels}
 use Rattle.tagged.specs.Choice.{choose}
 use Rattle.tagged.specs.Sorts.{tag_of}
 use Rattle.tagged.specs.Fields.{field_bytes, all_bytes_of, fields_at}
-use Rattle.declarations.specs.Declarations.{Declaration, width_of, variable_width}
+use Rattle.tagged.specs.Declarations.{Declaration, width_of, variable_width}
 use Rattle.tagged.specs.declared.sorts.StatementSort.TheVariants as StatementSort
 use Rattle.tagged.specs.declared.sorts.Sort.TheVariants as Sort
 use Rattle.tagged.proofs.SortLaws.{is-itself}
@@ -162,7 +161,7 @@ module _ (ds : List Declaration) (widths : WidthsFit ds) where
         (λ h. items-run later-typed fits.3 (suc d) (omega arith) (omega arith) f number left h next)
 
   -- a process, then the list of them
-  process-runs : {b : Block} {s : State} → TypedBlock ds b → FitsBlock b → suc (statements_depth b) ≤ process_levels → length (process_bytes b) ≤ longest_field →
+  process-runs : {b : Block} {s : State} → TypedBlock ds b → FitsBlock b → suc (statements_depth b) ≤ 31 → length (process_bytes b) ≤ longest_field →
       StateFits ds s → (left : State) → execute_block ds s b ≡ got left → Leads (run_process (widths_of ds)) (process_bytes b) s left
   unfolding process_bytes run_process
   process-runs {b} typed fits deep long f left e =
@@ -172,10 +171,10 @@ module _ (ds : List Declaration) (widths : WidthsFit ds) where
         payload = block_payload b;
         field = refl;
         short = short;
-        runs = rw (is-itself Sort.Process) (statements-run typed fits statement_levels (omega arith) (omega arith) f left e 0);
+        runs = rw (is-itself Sort.Process) (statements-run typed fits 30 (omega arith) (omega arith) f left e 0);
       }
 
-  processes-from : {ps : List Block} {s : State} → TypedAll ds ps → All FitsBlock ps → processes_depth ps ≤ process_levels → length (all_bytes_of process_bytes ps) ≤ longest_field →
+  processes-from : {ps : List Block} {s : State} → TypedAll ds ps → All FitsBlock ps → processes_depth ps ≤ 31 → length (all_bytes_of process_bytes ps) ≤ longest_field →
       StateFits ds s → (left : State) → execute_all ds s ps ≡ got left → (base : ℕ) →
       run_all (run_process (widths_of ds)) (fields_at base (all_bytes_of process_bytes ps)) s ≡ left
   unfolding execute_all All processes_depth all_bytes_of
@@ -188,7 +187,7 @@ module _ (ds : List Declaration) (widths : WidthsFit ds) where
       (λ next. processes-from rest_Typed fits.1 (omega arith) (omega arith) p.fits left (rw p.runs at e) next) base
 
 -- the processes of a module that is typed, and within the limits of its tagged form
-pub processes-run : (ds : List Declaration) (ps : List Block) → TypedAll ds ps → WidthsFit ds → All FitsBlock ps → processes_depth ps ≤ process_levels →
+pub processes-run : (ds : List Declaration) (ps : List Block) → TypedAll ds ps → WidthsFit ds → All FitsBlock ps → processes_depth ps ≤ 31 →
     length (all_bytes_of process_bytes ps) ≤ longest_field → (s : State) → StateFits ds s → (t : State) → execute_all ds s ps ≡ got t →
     run_processes (map width_of ds) (all_bytes_of process_bytes ps) s ≡ t
 unfolding run_processes

@@ -9,7 +9,6 @@ use native.Mathlib.Omega.{arith}
 use lib.Dec.{eqb}
 use lib.ListN.{length, take, drop, length-take, length-drop}
 use borrow.Author.Tests.{eq-eqb, ne_eqb}
-use Rattle.tagged.specs.Limits.{statement_levels}
 use Rattle.tagged.specs.Sorts.{on_statement, is_sort}
 use Rattle.tagged.specs.Fields.{open_of, on_field, fields_at}
 use Rattle.tagged.specs.declared.sorts.StatementSort.{StatementSort}
@@ -153,7 +152,7 @@ module _ (widths : List ℕ) (d : ℕ) (l : List ℕ) (state : State) where
     block-other k = rw (block-step widths d h s l state, is-missed Sort.Block s but_block tt k)
 
 module _ (widths : List ℕ) (s : Sort) (l : List ℕ) (state : State) where
-  pub process-of : s ≡ Sort.Process → (after : State) → after ≡ run_all (run_statement widths statement_levels) (fields_at 0 l) state → after ≡ run_process widths s l state
+  pub process-of : s ≡ Sort.Process → (after : State) → after ≡ run_all (run_statement widths 30) (fields_at 0 l) state → after ≡ run_process widths s l state
   unfolding run_process
   process-of e after p = p ∙ rw (e, is-itself Sort.Process)
 

@@ -19,7 +19,7 @@ use Rattle.words.specs.declared.OneOperand.TheVariants as one
 use Rattle.words.specs.declared.TwoOperand.{TwoOperand}
 use Rattle.words.specs.declared.TwoOperand.TheVariants as two
 use Rattle.words.proofs.ResultLaws.{one_inside, two-inside}
-use Rattle.declarations.specs.Declarations.{Declaration, width_of, variable_width}
+use Rattle.tagged.specs.Declarations.{Declaration, width_of, variable_width}
 use Rattle.tagged.proofs.TestLaws.{both}
 use Rattle.verilog.specs.Tree.{Expression}
 use Rattle.verilog.specs.Rules.{expression_width}

@@ -10,7 +10,7 @@ use Rattle.words.specs.Results.{put_result}
 use Rattle.tagged.specs.Bytes.{four_of}
 use Rattle.tagged.specs.Choice.{choose}
 use Rattle.tagged.specs.Fields.{fields_at}
-use Rattle.declarations.specs.Declarations.{Declaration, width_of}
+use Rattle.tagged.specs.Declarations.{Declaration, width_of}
 use Rattle.tagged.specs.declared.sorts.Kind.{Kind}
 use Rattle.tagged.specs.declared.sorts.StatementSort.TheVariants as StatementSort
 use Rattle.tagged.specs.declared.sorts.Sort.TheVariants as Sort

@@ -1,7 +1,6 @@
 -- What the code of a run does to the values, over the bytes of processes. The number d is how many levels may be opened.
 use Rattle.std.specs.Prelude.{Bool, cond, List, [], ◌∷◌, ℕ, zero, suc, ◌%◌, eqb, get_or, drop}
 use Rattle.words.specs.Results.{put_result}
-use Rattle.tagged.specs.Limits.{statement_levels}
 use Rattle.tagged.specs.Bytes.{four_of}
 use Rattle.tagged.specs.Choice.{choose}
 use Rattle.tagged.specs.Sorts.{on_statement, is_sort}
@@ -79,9 +78,9 @@ unfoldable mutual
   run_item widths zero l state = state
   run_item widths (suc d) l state = front_block (λ u p x. run_block widths d u p x) (after_front l) state
 
--- the statements of a process
+-- a process's statements have 30 levels left
 unfoldable pub run_process : List ℕ → Runner
-run_process widths s l state = cond (is_sort Sort.Process s) (run_all (run_statement widths statement_levels) (fields_at 0 l) state) state
+run_process widths s l state = cond (is_sort Sort.Process s) (run_all (run_statement widths 30) (fields_at 0 l) state) state
 
 -- the processes of a list
 unfoldable pub run_processes : List ℕ → List ℕ → State → State

@@ -2,8 +2,8 @@
 ghost use Rattle.std.specs.Prelude.{◌≡◌, cond, ◌%◌, ◌^◌, ◌≤◌, eqb, length};
 ghost use Rattle.std.proofs.lemmas.List.Edits.{sets};
 ghost use Rattle.tagged.specs.Limits.{most_variables};
-ghost use Rattle.declarations.specs.Rows.{row_bytes, row_answer};
-ghost use Rattle.declarations.specs.Runs.{row_left};
+ghost use Rattle.tagged.specs.Rows.{row_bytes, row_answer};
+ghost use Rattle.tagged.specs.Runs.{row_left};
 ghost use Rattle.tagged.specs.declared.answers.Answer.TheVariants as Answer;
 ghost use Rattle.verilog.specs.Answer.{module_answer};
 ghost use Rattle.verilog.specs.Cycle.{settled};
@@ -11,11 +11,10 @@ ghost use Rattle.verilog.specs.Run.{file_widths, cycle_of};
 ghost use Rattle.verilog_run.specs.Execution.{state_of, run_processes, delayed_by, settled_state};
 
 use crate::execute::processes;
-use declarations::form::declared_bytes;
-use declarations::rows::{read_row, write_row};
-use declarations::table::variable_table;
 use tagged::bytes::from;
+use tagged::declarations::{declared_bytes, variable_table};
 use tagged::limits::Variables;
+use tagged::rows::{read_row, write_row};
 use verilog_check::survey::survey;
 
 // A register's new value: the pending one if its first assignment is non-blocking, else the current one.

@@ -3,9 +3,9 @@ ghost use Rattle.std.specs.Prelude.{◌≡◌};
 ghost use Rattle.verilog.specs.Reading.{expression_with, expression_in};
 ghost use Rattle.verilog_run.specs.Numbers.{one_of, two_of, number_in};
 
-use declarations::rows::number_at;
 use tagged::bytes::{byte_at, four_of, from};
 use tagged::fields::{Opened, open_field};
+use tagged::rows::number_at;
 use tagged::sorts::{ExpressionSort, Sort};
 use verilog::reading::after_front;
 use words::{OneOperand, TwoOperand, bit, one_result, two_result};

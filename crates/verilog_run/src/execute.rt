@@ -6,10 +6,11 @@ ghost use Rattle.verilog.specs.Cycle.{changed, held};
 ghost use Rattle.verilog_run.specs.Execution.{state_of, run_all, assigned, assigned_bit, item_value, front_block, run_items, statement_run, run_statement, run_block, run_item, run_process, run_processes};
 
 use crate::evaluate::value_of;
-use declarations::rows::{number_at, put_number};
 use tagged::bytes::{byte_at, four_of, from};
-use tagged::fields::{Opened, open_field, payload_at};
+use tagged::declarations::payload_at;
+use tagged::fields::{Opened, open_field};
 use tagged::limits::Depth;
+use tagged::rows::{number_at, put_number};
 use tagged::sorts::{Kind, Sort, StatementSort};
 use verilog::reading::after_front;
 use words::put_result;

@@ -5,16 +5,16 @@ pub mod execute;
 
 ghost use Rattle.std.specs.Prelude.{◌≡◌, length};
 ghost use Rattle.tagged.specs.Answers.{Promise};
-ghost use Rattle.declarations.specs.Rows.{row_answer};
+ghost use Rattle.tagged.specs.Rows.{row_answer};
 ghost use Rattle.tagged.specs.declared.answers.Answer.TheVariants as Answer;
 ghost use Rattle.verilog.specs.Answer.{module_answer};
 ghost use Rattle.verilog.specs.Run.{file_widths, run_answer, run_leaves};
 
 use crate::cycle::write_cycle;
-use declarations::rows::row_answer;
-use declarations::table::variable_table;
 use tagged::answers::Answer;
 use tagged::bytes::from;
+use tagged::declarations::variable_table;
+use tagged::rows::row_answer;
 use verilog_check::check;
 
 // The answer of a row that is read and of the length of a row that is written, for an accepted module: refusal 14.

@@ -3,10 +3,9 @@ use mathlib.Core.Path.{sym, ◌∙◌}
 use native.Mathlib.Omega.{arith}
 use Rattle.tagged.specs.Limits.{longest_netlist}
 use Rattle.tagged.proofs.FileLaws.{file-long, form-whole, length-refused, form-refused, others-answered}
-use Rattle.netlist_lists.specs.Form.{netlist_body, netlist_form}
-use Rattle.netlist_lists.specs.Reading.{netlist_in}
-use Rattle.netlist_lists.specs.Answer.{lists_answer, netlist_answer}
-use Rattle.netlist_lists.proofs.FileAnswers.{netlist-answered}
+use Rattle.netlist.specs.Form.{netlist_body, netlist_form}
+use Rattle.netlist.specs.Reading.{netlist_in}
+use Rattle.netlist.specs.Answer.{lists_answer, netlist_answer}
 use borrow.Author.Rules.{rules}
 use Rattle.netlist.proofs.read.Statement.{statement}
 use Rattle.netlist.proofs.read.Tie as tie
@@ -46,6 +45,7 @@ enum-known-rule : tie.Need-enum-known-rule
 enum-known-rule c = search rules
 
 returns : tie.Need-returns
+unfolding netlist_answer
 returns c =
     let lists-answer = c.lists-answer in
     let args = c.before.before.before.before.before.before.before.before.args in
@@ -54,9 +54,9 @@ returns c =
     let netlist-form = c.before.before.before.netlist-form in
     let enum-told2 = c.before.enum-told2 in
     lists-answer.ensures ∙ others-answered longest_netlist args.file.now netlist-file.result netlist-file.ensures _ _ enum_told.given.1 _ (sym netlist-form.ensures ∙ enum-told2.given.1)
-    ∙ sym (netlist-answered args.file.now)
 
 returns-2 : tie.Need-returns-2
+unfolding netlist_answer
 returns-2 c =
     let args = c.before.before.before.before.before.before.before.before.args in
     let netlist-file = c.before.before.before.before.before.before.netlist-file in
@@ -64,15 +64,14 @@ returns-2 c =
     let netlist-form = c.before.before.before.netlist-form in
     let place = c.before.place in
     form-refused longest_netlist args.file.now netlist-file.result netlist-file.ensures _ _ enum_told.given.1 _ (sym netlist-form.ensures ∙ place.given.1)
-    ∙ sym (netlist-answered args.file.now)
 
 returns-3 : tie.Need-returns-3
+unfolding netlist_answer
 returns-3 c =
     let args = c.before.before.before.before.before.args in
     let netlist-file = c.before.before.before.netlist-file in
     let rule = c.before.rule in
     length-refused longest_netlist args.file.now netlist-file.result netlist-file.ensures (netlist_form args.file.now) (lists_answer 3 (netlist_in args.file.now)) _ _ rule.given.1
-    ∙ sym (netlist-answered args.file.now)
 
 pub read_spec : {M : Type 1} → statement M
 read_spec =

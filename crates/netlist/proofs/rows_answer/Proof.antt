@@ -2,11 +2,11 @@
 use mathlib.Core.Path.{sym, ap, ◌∙◌}
 use native.Mathlib.Omega.{arith}
 use lib.Seq.{length-take-le}
-use Rattle.declarations.specs.Declarations.{declarations_in}
-use Rattle.declarations.specs.Rows.{row_answer}
-use Rattle.declarations.proofs.TableLaws.{widths-long, count_fits, front-few, widths-all}
+use Rattle.tagged.specs.Declarations.{declarations_in}
+use Rattle.tagged.specs.Rows.{row_answer}
+use Rattle.tagged.proofs.TableLaws.{widths-long, count_fits, front-few, widths-all}
 use Rattle.netlist.proofs.CallLaws.{accepted-long, variables-told, widths-told}
-use Rattle.netlist_step.proofs.CycleWritten.{part-short}
+use Rattle.netlist.proofs.CycleWritten.{part-short}
 use borrow.Author.Rules.{rules}
 use Rattle.netlist.proofs.rows_answer.Statement.{statement}
 use Rattle.netlist.proofs.rows_answer.Tie as tie

@@ -1,8 +1,7 @@
 -- `netlist::run` meets its contract: a refusal writes nothing, and otherwise the cycle is written. Assumes nothing.
 use mathlib.Core.Path.{sym, ◌∙◌}
-use Rattle.declarations.proofs.RunPromises.{run-refused, row-refused, run-accepted}
-use Rattle.netlist_lists.specs.Run.{run_answer, run_leaves}
-use Rattle.netlist_lists.specs.Answer.{netlist_file_broken, netlist_answer}
+use Rattle.tagged.proofs.RunPromises.{run-refused, row-refused, run-accepted}
+use Rattle.netlist.specs.Run.{run_answer, run_leaves}
 use borrow.Author.Rules.{rules}
 use Rattle.netlist.proofs.run.Statement.{statement}
 use Rattle.netlist.proofs.run.Tie as tie
@@ -37,7 +36,7 @@ same_length : tie.Need-same-length
 same_length c = search rules
 
 returns : tie.Need-returns
-unfolding run_answer run_leaves netlist_answer
+unfolding run_answer run_leaves
 returns c =
     let args = c.before.before.before.before.before.before.before.before.before.before.before.before.before.args in
     let read = c.before.before.before.before.before.before.before.before.before.read in
@@ -45,25 +44,25 @@ returns c =
     let rows-answer = c.before.before.before.before.before.before.rows-answer in
     let enum-told2 = c.before.before.before.before.enum-told2 in
     let write-cycle = c.before.before.write-cycle in
-    run-accepted (netlist_file_broken args.file.now) _ args.row.now args.next.now _ read.result read.ensures enum_told.given.1 rows-answer.result rows-answer.ensures enum-told2.given.1 _ write-cycle.ensures
+    run-accepted _ _ args.row.now args.next.now _ read.result read.ensures enum_told.given.1 rows-answer.result rows-answer.ensures enum-told2.given.1 _ write-cycle.ensures
 
 returns-2 : tie.Need-returns-2
-unfolding run_answer run_leaves netlist_answer
+unfolding run_answer run_leaves
 returns-2 c =
     let args = c.before.before.before.before.before.before.before.before.before.before.args in
     let read = c.before.before.before.before.before.before.read in
     let enum_told = c.before.before.before.before.enum_told in
     let rows-answer = c.before.before.before.rows-answer in
     let rule = c.before.rule in
-    row-refused (netlist_file_broken args.file.now) _ args.row.now args.next.now _ read.result read.ensures enum_told.given.1 rows-answer.result rows-answer.ensures _ _ rule.given.1
+    row-refused _ _ args.row.now args.next.now _ read.result read.ensures enum_told.given.1 rows-answer.result rows-answer.ensures _ _ rule.given.1
 
 returns-3 : tie.Need-returns-3
-unfolding run_answer run_leaves netlist_answer
+unfolding run_answer run_leaves
 returns-3 c =
     let args = c.before.before.before.before.before.before.before.args in
     let read = c.before.before.before.read in
     let rule2 = c.before.rule2 in
-    run-refused (netlist_file_broken args.file.now) _ args.row.now args.next.now _ read.result read.ensures _ _ rule2.given.1
+    run-refused _ _ args.row.now args.next.now _ read.result read.ensures _ _ rule2.given.1
 
 pub run_spec : {M : Type 1} → statement M
 run_spec =

@@ -3,7 +3,7 @@ use mathlib.Core.Path.{refl, sym}
 use native.Mathlib.Omega.{arith}
 use lib.Seq.{length-take-le}
 use Rattle.tagged.proofs.AllBytesLaws.{read-bytes}
-use Rattle.declarations.proofs.TableLaws.{zeros-at}
+use Rattle.tagged.proofs.TableLaws.{zeros-at}
 use Rattle.verilog_check.proofs.AcceptedFile.{payload-short, widths-room, marks-room, widths-few, marks-few}
 use Rattle.translator.proofs.ModulePassed.{parts-short, list-short, module-passed}
 use borrow.Author.Rules.{rules}

@@ -6,7 +6,6 @@ use Rattle.tagged.proofs.FileLaws.{file-long, form-whole, length-refused, form-r
 use Rattle.verilog.specs.Form.{module_body, module_form}
 use Rattle.verilog.specs.Reading.{module_in}
 use Rattle.verilog.specs.Answer.{tree_answer, module_answer}
-use Rattle.verilog.proofs.FileAnswers.{module-answered}
 use borrow.Author.Rules.{rules}
 use Rattle.verilog_check.proofs.check.Statement.{statement}
 use Rattle.verilog_check.proofs.check.Tie as tie
@@ -46,6 +45,7 @@ enum-known-rule : tie.Need-enum-known-rule
 enum-known-rule c = search rules
 
 returns : tie.Need-returns
+unfolding module_answer
 returns c =
     let tree-answer = c.tree-answer in
     let args = c.before.before.before.before.before.before.before.before.args in
@@ -54,9 +54,9 @@ returns c =
     let module-form = c.before.before.before.module-form in
     let enum-told2 = c.before.enum-told2 in
     tree-answer.ensures ∙ others-answered longest_module args.file.now module-file.result module-file.ensures _ _ enum_told.given.1 _ (sym module-form.ensures ∙ enum-told2.given.1)
-    ∙ sym (module-answered args.file.now)
 
 returns-2 : tie.Need-returns-2
+unfolding module_answer
 returns-2 c =
     let args = c.before.before.before.before.before.before.before.before.args in
     let module-file = c.before.before.before.before.before.before.module-file in
@@ -64,15 +64,14 @@ returns-2 c =
     let module-form = c.before.before.before.module-form in
     let place = c.before.place in
     form-refused longest_module args.file.now module-file.result module-file.ensures _ _ enum_told.given.1 _ (sym module-form.ensures ∙ place.given.1)
-    ∙ sym (module-answered args.file.now)
 
 returns-3 : tie.Need-returns-3
+unfolding module_answer
 returns-3 c =
     let args = c.before.before.before.before.before.args in
     let module-file = c.before.before.before.module-file in
     let rule = c.before.rule in
     length-refused longest_module args.file.now module-file.result module-file.ensures (module_form args.file.now) (tree_answer 3 (module_in args.file.now)) _ _ rule.given.1
-    ∙ sym (module-answered args.file.now)
 
 pub check-spec : {M : Type 1} → statement M
 check-spec =

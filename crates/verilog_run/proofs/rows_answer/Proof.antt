@@ -2,9 +2,9 @@
 use mathlib.Core.Path.{sym, ap, ◌∙◌}
 use native.Mathlib.Omega.{arith}
 use lib.Seq.{length-take-le}
-use Rattle.declarations.specs.Declarations.{declarations_in}
-use Rattle.declarations.specs.Rows.{row_answer}
-use Rattle.declarations.proofs.TableLaws.{widths-all}
+use Rattle.tagged.specs.Declarations.{declarations_in}
+use Rattle.tagged.specs.Rows.{row_answer}
+use Rattle.tagged.proofs.TableLaws.{widths-all}
 use Rattle.verilog_check.proofs.AcceptedFile.{payload-short, variables-told, widths-told, widths-room, widths-few}
 use borrow.Author.Rules.{rules}
 use Rattle.verilog_run.proofs.rows_answer.Statement.{statement}

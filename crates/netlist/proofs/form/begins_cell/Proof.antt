@@ -1,7 +1,7 @@
 -- `netlist::form::begins_cell` meets its contract: each arm is the sort that the match found. Assumes nothing.
 use mathlib.Core.Path.{sym, ap, ◌∙◌}
 use Rattle.tagged.specs.Sorts.{is_cell}
-use Rattle.netlist_lists.proofs.NextLaws.{not-cell}
+use Rattle.netlist.proofs.FormLaws.{not-cell}
 use borrow.Author.Rules.{rules}
 use Rattle.netlist.proofs.form.begins_cell.Statement.{statement}
 use Rattle.netlist.proofs.form.begins_cell.Tie as tie

@@ -1,7 +1,7 @@
 -- `netlist::form::byte_and_operand` meets its contract: a byte stands there, and an operand follows. Assumes nothing.
 use mathlib.Core.List.{[], ◌∷◌}
 use Prim.Native.Nat.{◌+◌}
-use Rattle.netlist_lists.specs.Form.{an_operand}
+use Rattle.netlist.specs.Form.{an_operand}
 use Rattle.netlist.proofs.FormLaws.{byte-refused, byte-then}
 use borrow.Author.Rules.{rules}
 use Rattle.netlist.proofs.form.byte_and_operand.Statement.{statement}

@@ -1,7 +1,7 @@
 -- `netlist::form::cell` meets its contract: by the laws of one field. Assumes nothing.
 use mathlib.Core.Path.{sym, ◌∙◌}
 use native.Mathlib.Omega.{arith}
-use Rattle.netlist_lists.specs.Form.{cell_body}
+use Rattle.netlist.specs.Form.{cell_body}
 use Rattle.tagged.proofs.FieldLaws.{open-whole, field-refused, field_past}
 use borrow.Author.Rules.{rules}
 use Rattle.netlist.proofs.form.cell.Statement.{statement}

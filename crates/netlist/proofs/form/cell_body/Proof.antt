@@ -1,8 +1,7 @@
 -- `netlist::form::cell_body` meets its contract: each arm is the sort that the match found. Assumes nothing.
 use Prim.Native.Nat.{◌+◌}
-use Rattle.netlist_lists.specs.Form.{shape_of}
-use Rattle.netlist.proofs.FormLaws.{byte-refused, byte-then, cell-slotted, cell_other}
-use Rattle.netlist_lists.proofs.NextLaws.{not-cell}
+use Rattle.netlist.specs.Form.{shape_of}
+use Rattle.netlist.proofs.FormLaws.{byte-refused, byte-then, cell-slotted, cell_other, not-cell}
 use borrow.Author.Rules.{rules}
 use Rattle.netlist.proofs.form.cell_body.Statement.{statement}
 use Rattle.netlist.proofs.form.cell_body.Tie as tie

@@ -2,7 +2,7 @@
 use mathlib.Core.Path.{ap}
 use Prim.Native.Nat.{◌+◌}
 use borrow.Author.Tests.{not-true, not-false}
-use Rattle.netlist_lists.specs.Form.{shape_of}
+use Rattle.netlist.specs.Form.{shape_of}
 use Rattle.netlist.proofs.FormLaws.{operand-first, operand-refused, operand-then, slots-ended}
 use borrow.Author.Rules.{rules}
 use Rattle.netlist.proofs.form.cell_slots.Statement.{statement}

@@ -7,7 +7,7 @@ use lib.ListN.{length, drop}
 use borrow.Author.Tests.{not-true, not-false}
 use Rattle.tagged.specs.Sorts.{sort_of, is_cell}
 use Rattle.tagged.specs.Fields.{further, field_by, many}
-use Rattle.netlist_lists.specs.Form.{cell_body, cells_step}
+use Rattle.netlist.specs.Form.{cell_body, cells_step}
 use Rattle.tagged.proofs.ByteLaws.{front}
 use Rattle.tagged.proofs.FieldLaws.{past-within}
 use Rattle.tagged.proofs.ListLaws.{further-zero, turn-done, turn-stop, turn-refused, turn-past}

@@ -1,6 +1,6 @@
 -- `netlist::form::cells_and_drives` meets its contract: the cells are passed within the part, and the rest is drives. Assumes nothing.
 use native.Mathlib.Omega.{arith}
-use Rattle.netlist_lists.specs.Form.{cells_step, drives_judge}
+use Rattle.netlist.specs.Form.{cells_step, drives_judge}
 use Rattle.tagged.proofs.FieldLaws.{then-refused, then-past}
 use Rattle.netlist.proofs.FormLaws.{cells-within}
 use borrow.Author.Rules.{rules}

@@ -5,7 +5,7 @@ use native.Mathlib.Nat.{add-zero}
 use native.Mathlib.Omega.{arith}
 use lib.ListN.{length, take, drop, length-take}
 use Rattle.tagged.specs.Fields.{further, field_by, many, ended, any_sort}
-use Rattle.netlist_lists.specs.Form.{drive_body, drives_judge}
+use Rattle.netlist.specs.Form.{drive_body, drives_judge}
 use Rattle.tagged.proofs.FieldLaws.{past-within, then-refused, then-past, ended-fine}
 use Rattle.tagged.proofs.ListLaws.{further-zero, turn-done, turn-refused, turn-past}
 use borrow.Author.Rules.{rules}

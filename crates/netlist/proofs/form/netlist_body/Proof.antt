@@ -2,10 +2,10 @@
 use Prim.Native.Nat.{◌+◌}
 use native.Mathlib.Omega.{arith}
 use Rattle.tagged.specs.Fields.{then_by}
-use Rattle.declarations.specs.Declarations.{declarations_step}
-use Rattle.netlist_lists.specs.Form.{cells_step, drives_judge}
+use Rattle.tagged.specs.Declarations.{declarations_step}
+use Rattle.netlist.specs.Form.{cells_step, drives_judge}
 use Rattle.tagged.proofs.FieldLaws.{then-refused, then-past}
-use Rattle.declarations.proofs.DeclarationBytes.{declarations-within}
+use Rattle.tagged.proofs.DeclarationBytes.{declarations-within}
 use Rattle.netlist.proofs.FormLaws.{netlist-lists, netlist-other}
 use borrow.Author.Rules.{rules}
 use Rattle.netlist.proofs.form.netlist_body.Statement.{statement}

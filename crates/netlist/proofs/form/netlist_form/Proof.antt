@@ -1,7 +1,7 @@
 -- `netlist::form::netlist_form` meets its contract: by the laws of one field. Assumes nothing.
 use mathlib.Core.Path.{sym, ◌∙◌}
 use native.Mathlib.Omega.{arith}
-use Rattle.netlist_lists.specs.Form.{netlist_body, netlist_form}
+use Rattle.netlist.specs.Form.{netlist_body, netlist_form}
 use Rattle.tagged.proofs.FieldLaws.{open-whole, field-refused, field_past}
 use borrow.Author.Rules.{rules}
 use Rattle.netlist.proofs.form.netlist_form.Statement.{statement}

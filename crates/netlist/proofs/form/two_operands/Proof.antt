@@ -2,7 +2,7 @@
 use mathlib.Core.Path.{refl}
 use mathlib.Core.List.{[], ◌∷◌}
 use Prim.Native.Nat.{◌+◌}
-use Rattle.netlist_lists.specs.Form.{an_operand}
+use Rattle.netlist.specs.Form.{an_operand}
 use Rattle.netlist.proofs.FormLaws.{operand-refused, operand-then}
 use borrow.Author.Rules.{rules}
 use Rattle.netlist.proofs.form.two_operands.Statement.{statement}

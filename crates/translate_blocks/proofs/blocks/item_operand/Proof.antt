@@ -4,8 +4,8 @@ use Prim.Native.Nat.{ℕ}
 use native.Mathlib.Omega.{arith}
 use lib.ListN.{get_or, drop}
 use Rattle.tagged.specs.Bytes.{four_of}
-use Rattle.netlist_lists.specs.declared.Operand.{Operand}
-use Rattle.netlist_lists.specs.declared.Operand.TheVariants as Operand
+use Rattle.netlist.specs.declared.Operand.{Operand}
+use Rattle.netlist.specs.declared.Operand.TheVariants as Operand
 use Rattle.tagged.proofs.FieldLaws.{open-whole}
 use Rattle.verilog.proofs.FrontReading.{front-field, front-none}
 use borrow.Author.Rules.{rules}

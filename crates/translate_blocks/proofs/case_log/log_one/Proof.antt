@@ -1,6 +1,6 @@
 -- `translate_blocks::case_log::log_one` meets its contract: the test is the definition's. Assumes nothing.
 use Rattle.tagged.proofs.WriteLaws.{wrote_none}
-use Rattle.netlist_lists.proofs.PutLaws.{wrote_as}
+use Rattle.netlist.proofs.PutLaws.{wrote_as}
 use Rattle.translate_blocks.proofs.LogSteps.{logged-same, logged-other}
 use borrow.Author.Rules.{rules}
 use Rattle.translate_blocks.proofs.case_log.log_one.Statement.{statement}

@@ -2,7 +2,7 @@
 use mathlib.Core.Path.{ap, ◌∙◌}
 use Prim.Native.Nat.{ℕ}
 use lib.ListN.{get_or}
-use Rattle.netlist_lists.specs.declared.Operand.{Operand}
+use Rattle.netlist.specs.declared.Operand.{Operand}
 use Rattle.translate_blocks.specs.Words.{unpacked}
 use Rattle.translate_blocks.specs.Ends.{drive_slot}
 use borrow.Author.Rules.{rules}

@@ -1,7 +1,7 @@
 -- `translate_blocks::ends::put_marked` meets its contract: the test is the definition's. Assumes nothing.
 use mathlib.Core.Path.{sym, ap}
-use Rattle.netlist_lists.specs.Form.{drive_bytes}
-use Rattle.netlist_lists.proofs.PutLaws.{wrote_as}
+use Rattle.netlist.specs.Form.{drive_bytes}
+use Rattle.netlist.proofs.PutLaws.{wrote_as}
 use Rattle.translate_blocks.proofs.DriveTurns.{wrote-unmarked, wrote-marked}
 use borrow.Author.Rules.{rules}
 use Rattle.translate_blocks.proofs.ends.put_marked.Statement.{statement}

@@ -1,7 +1,7 @@
 -- `verilog::form::module_parts` meets its contract: declarations, and then processes. Assumes nothing.
 use native.Mathlib.Omega.{arith}
 use Rattle.tagged.proofs.FieldLaws.{then-refused, then-past}
-use Rattle.declarations.proofs.DeclarationBytes.{declarations-within}
+use Rattle.tagged.proofs.DeclarationBytes.{declarations-within}
 use borrow.Author.Rules.{rules}
 use Rattle.verilog.proofs.form.module_parts.Statement.{statement}
 use Rattle.verilog.proofs.form.module_parts.Tie as tie

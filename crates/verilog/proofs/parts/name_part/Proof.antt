@@ -2,7 +2,7 @@
 use mathlib.Core.Path.{ap, ◌∙◌}
 use native.Mathlib.Omega.{arith}
 use lib.ListN.{length, length-drop}
-use Rattle.declarations.specs.Parts.{name_in}
+use Rattle.tagged.specs.Parts.{name_in}
 use Rattle.verilog.specs.Parts.{name_part}
 use borrow.Author.Rules.{rules}
 use Rattle.verilog.proofs.parts.name_part.Statement.{statement}

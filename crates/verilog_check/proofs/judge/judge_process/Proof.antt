@@ -5,20 +5,19 @@ use native.Mathlib.Omega.{arith}
 use lib.Dec.{leb}
 use borrow.Author.Tests.{leb-true, leb-false, le-leb, lt-leb}
 use Rattle.tagged.specs.Limits.{most_processes}
-use Rattle.tagged.specs.Refusals.{first_refusal, first_of}
+use Rattle.tagged.specs.Refusals.{first_refusal}
 use Rattle.tagged.proofs.ChoiceLaws.{first_taken, second-taken}
-use Rattle.verilog.specs.Rules.{breaks, module_tests}
-use Rattle.verilog_check.specs.Judged.{judged, judged_tests}
+use Rattle.verilog.specs.Rules.{breaks}
+use Rattle.verilog_check.specs.Judged.{judged}
 use borrow.Author.Rules.{rules}
 use Rattle.verilog_check.proofs.judge.judge_process.Statement.{statement}
 use Rattle.verilog_check.proofs.judge.judge_process.Tie as tie
-use Rattle.tagged.specs.Order.{number_of}
 
 enum_told : tie.Need-enum-told
 enum_told c = search rules
 
 returns : tie.Need-returns
-unfolding first_of judged_tests number_of module_tests
+unfolding first_refusal judged breaks
 returns c widths marks firsts =
     let process = c.before.before.before.args.process in
     let answer = sym c.before.before.new.ensures ∙ c.enum_told.given.1 in
@@ -27,7 +26,7 @@ returns c widths marks firsts =
     rw (lt-leb most_processes process (omega arith))
 
 returns-2 : tie.Need-returns-2
-unfolding first_of judged_tests number_of module_tests
+unfolding first_refusal judged breaks
 returns-2 c widths marks firsts =
     let process = c.before.before.before.args.process in
     let answer = sym c.before.before.new.ensures ∙ c.enum-told2.given.1 in

@@ -1,19 +1,18 @@
 -- `verilog_check::judge::judge_statement` meets its contract: the tests that a statement can break, in the order of their rules. Assumes nothing.
 use mathlib.Core.Path.{sym, ◌∙◌}
-use Rattle.tagged.specs.Refusals.{first_refusal, first_of}
-use Rattle.verilog.specs.Rules.{breaks, module_tests}
-use Rattle.verilog_check.specs.Judged.{judged, judged_tests}
+use Rattle.tagged.specs.Refusals.{first_refusal}
+use Rattle.verilog.specs.Rules.{breaks}
+use Rattle.verilog_check.specs.Judged.{judged}
 use borrow.Author.Rules.{rules}
 use Rattle.verilog_check.proofs.judge.judge_statement.Statement.{statement}
 use Rattle.verilog_check.proofs.judge.judge_statement.Tie as tie
-use Rattle.tagged.specs.Order.{number_of}
 
 returns : tie.Need-returns
-unfolding first_of judged_tests number_of module_tests
+unfolding first_refusal judged breaks
 returns c = rw (sym c.before.assigns-missing.ensures ∙ c.if1.true)
 
 returns-2 : tie.Need-returns-2
-unfolding first_of judged_tests number_of module_tests
+unfolding first_refusal judged breaks
 returns-2 c =
     let assigns-missing = c.before.before.before.assigns-missing in
     let if1 = c.before.before.if1 in
@@ -21,7 +20,7 @@ returns-2 c =
     rw (sym assigns-missing.ensures ∙ if1.false, sym statement-differs.ensures ∙ c.if2.true)
 
 returns-3 : tie.Need-returns-3
-unfolding first_of judged_tests number_of module_tests
+unfolding first_refusal judged breaks
 returns-3 c =
     let assigns-missing = c.before.before.before.before.before.assigns-missing in
     let if1 = c.before.before.before.before.if1 in
@@ -31,7 +30,7 @@ returns-3 c =
     rw (sym assigns-missing.ensures ∙ if1.false, sym statement-differs.ensures ∙ if2.false, sym writes-outside.ensures ∙ c.if3.true)
 
 returns-4 : tie.Need-returns-4
-unfolding first_of judged_tests number_of module_tests
+unfolding first_refusal judged breaks
 returns-4 c =
     let assigns-missing = c.before.before.before.before.before.before.before.assigns-missing in
     let if1 = c.before.before.before.before.before.before.if1 in
@@ -43,7 +42,7 @@ returns-4 c =
     rw (sym assigns-missing.ensures ∙ if1.false, sym statement-differs.ensures ∙ if2.false, sym writes-outside.ensures ∙ if3.false, sym kind-differs.ensures ∙ c.if4.true)
 
 returns-5 : tie.Need-returns-5
-unfolding first_of judged_tests number_of module_tests
+unfolding first_refusal judged breaks
 returns-5 c =
     let assigns-missing = c.before.before.before.before.before.before.before.before.before.assigns-missing in
     let if1 = c.before.before.before.before.before.before.before.before.if1 in
@@ -57,7 +56,7 @@ returns-5 c =
     rw (sym assigns-missing.ensures ∙ if1.false, sym statement-differs.ensures ∙ if2.false, sym writes-outside.ensures ∙ if3.false, sym kind-differs.ensures ∙ if4.false, sym process-differs.ensures ∙ c.if5.true)
 
 returns-6 : tie.Need-returns-6
-unfolding first_of judged_tests number_of module_tests
+unfolding first_refusal judged breaks
 returns-6 c =
     let assigns-missing = c.before.before.before.before.before.before.before.before.before.assigns-missing in
     let if1 = c.before.before.before.before.before.before.before.before.if1 in

@@ -2,9 +2,9 @@
 use mathlib.Core.Path.{refl, sym}
 use native.Mathlib.Omega.{arith}
 use lib.Seq.{length-take-le}
-use Rattle.declarations.specs.Declarations.{declarations_in}
+use Rattle.tagged.specs.Declarations.{declarations_in}
 use Rattle.tagged.proofs.AllBytesLaws.{read-bytes}
-use Rattle.declarations.proofs.TableLaws.{widths-long, marks-long, zeros-at}
+use Rattle.tagged.proofs.TableLaws.{widths-long, marks-long, zeros-at}
 use Rattle.verilog_check.proofs.TreeAnswers.{payload-long, list-long, answered}
 use borrow.Author.Rules.{rules}
 use Rattle.verilog_check.proofs.rules.tree_answer.Statement.{statement}
@@ -107,7 +107,7 @@ returns c =
     answered args.file.now (read-bytes args.file.now shared-slice-known.given) pre.0 pre.1 from.result.now from.ensures
     declared-bytes.result declared-bytes.ensures from2.result.now from2.ensures variable-table.result variable-table.ensures
     told.result told.ensures.1 _ refl (zeros-at 64) _ survey.ensures
-    _ _ _ declarations-answer.ensures processes-answer.ensures c.or-earlier.ensures
+    _ _ _ declarations-answer.ensures processes-answer.ensures c.or-lower.ensures
 
 pub tree-answer-spec : {M : Type 1} → statement M
 tree-answer-spec =

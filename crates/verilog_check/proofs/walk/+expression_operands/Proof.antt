@@ -7,7 +7,7 @@ use Prim.Native.Nat.{ℕ, ◌<◌, ◌≤◌, ◌+◌, ◌-◌, ◌*◌}
 use native.Mathlib.Nat.{add-zero}
 use lib.ListN.{length, drop}
 use Rattle.tagged.specs.Fields.{fields_at}
-use Rattle.tagged.specs.Refusals.{earlier_refusal}
+use Rattle.tagged.specs.Refusals.{lower_refusal}
 use Rattle.tagged.proofs.FieldLists.{field-within}
 use Rattle.verilog_check.specs.Judged.{field_answer}
 use Rattle.verilog_check.specs.Walk.{Walker, walk_all, walk_expression}
@@ -20,13 +20,13 @@ use Rattle.verilog_check.proofs.walk.+expression_operands.Lts-expression as expr
 use Rattle.verilog_check.proofs.walk.operands.Reads as operands
 use Rattle.verilog_check.proofs.walk.operands.Kinds as operands-kinds
 use Rattle.verilog_check.proofs.walk.+expression_operands.Lts-operands as operands-lts
-use Rattle.tagged.proofs.fields.payload_at.Reads as payload-at-reads
+use Rattle.tagged.proofs.declarations.payload_at.Reads as payload-at-reads
 use Rattle.tagged.proofs.fields.open_field.Reads as open-field-reads
 use Rattle.verilog_check.proofs.judge.judge_expression.Reads as judge-expression-reads
 use Rattle.verilog_check.proofs.walk.before_operands.Reads as before-operands-reads
 use Rattle.verilog_check.proofs.walk.+expression_operands.{statement}
 use Rattle.verilog_check.proofs.walk.+expression_operands.Tie.{close}
-use Rattle.tagged.proofs.answers.Answer.or_earlier.Reads as or-lower-reads
+use Rattle.tagged.proofs.answers.Answer.or_lower.Reads as or-lower-reads
 
 abbrev μ-expression : Measures 3 expression-kinds.ps ℕ
 μ-expression κs a = 2 * a.1.1.1.1.1.1.0
@@ -77,7 +77,7 @@ expression-returns-3 t c marks =
     let operands = c.before.operands in
     let judge = field_answer args.widths.now marks args.firsts.now args.process in
     own-joined (expression-of judge _ _ _ _ if1.false _ sort.given.1 _ (judge-expression.ensures marks)) _
-    (behind (walk_expression judge (args.depth - 1)) _ _ _ _ before-operands.ensures _ (operands.ensures marks)) _ c.or-earlier.ensures
+    (behind (walk_expression judge (args.depth - 1)) _ _ _ _ before-operands.ensures _ (operands.ensures marks)) _ c.or-lower.ensures
 
 expression-returns-4 : (t : ℕ) → expression-lts.Need-returns-4 (expression-in t) (expression-at t) expression.Post
 expression-returns-4 t c marks = expression-other _ _ _ _ _ c.before.if1.false c.match.keys2
@@ -85,7 +85,7 @@ expression-returns-4 t c marks = expression-other _ _ _ _ _ c.before.if1.false c
 abbrev operands-Inv-loop : operands-lts.invariant-loop
 operands-Inv-loop process widths firsts list base depth best₀ at₀ best at =
     let walk : List ℕ → Walker = λ marks. walk_expression (field_answer widths marks firsts process) depth in
-    (at ≤ length list) × ((marks : List ℕ) → walk_all (walk marks) (fields_at base list) ≡ earlier_refusal best (walk_all (walk marks) (fields_at (base + at) (drop at list))))
+    (at ≤ length list) × ((marks : List ℕ) → walk_all (walk marks) (fields_at base list) ≡ lower_refusal best (walk_all (walk marks) (fields_at (base + at) (drop at list))))
 
 abbrev operands-μ-loop : operands-lts.decreases-loop
 operands-μ-loop process widths firsts list base depth best₀ at₀ best at = length list - at
@@ -129,7 +129,7 @@ operands-loop-again t c = let loop = c.before.before.before.before.before.before
     let sort = c.before.before.before.before.sort in
     let payload-at = c.before.before.payload-at in
     let expression = c.before.expression in
-    (omega (arith, operands-within t c.before.before.before.before), λ marks. walk-next (all-steps _) _ loop.best _ _ _ (loop.invariant.1 marks) _ open-field.ensures _ _ sort.given.1 _ payload-at.ensures _ (expression.ensures marks) _ c.or-earlier.ensures)
+    (omega (arith, operands-within t c.before.before.before.before), λ marks. walk-next (all-steps _) _ loop.best _ _ _ (loop.invariant.1 marks) _ open-field.ensures _ _ sort.given.1 _ payload-at.ensures _ (expression.ensures marks) _ c.or-lower.ensures)
 
 operands-returns : (t : ℕ) → operands-lts.Need-returns (operands-in t) (operands-at t) operands.Post operands-Inv-loop operands-μ-loop
 operands-returns t c marks =

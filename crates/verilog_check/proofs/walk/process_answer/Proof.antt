@@ -16,7 +16,7 @@ returns c =
     let statements = c.before.statements in
     own-joined
     (process-of (field_answer args.widths.now args.marks.now args.firsts.now args.process) _ _ _ _ enum_told.given.1 _ (judge-process.ensures args.widths.now args.marks.now args.firsts.now))
-    _ statements.ensures _ c.or-earlier.ensures
+    _ statements.ensures _ c.or-lower.ensures
 
 returns-2 : tie.Need-returns-2
 returns-2 c = process-other _ _ _ _ _ c.match.keys2

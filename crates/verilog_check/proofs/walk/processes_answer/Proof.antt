@@ -5,7 +5,7 @@ use Prim.Native.Nat.{ℕ, ◌≤◌, ◌+◌, ◌-◌}
 use native.Mathlib.Nat.{add-zero}
 use lib.ListN.{length, drop}
 use Rattle.tagged.specs.Fields.{Placed, Field, fields_at}
-use Rattle.tagged.specs.Refusals.{earlier_refusal}
+use Rattle.tagged.specs.Refusals.{lower_refusal}
 use Rattle.tagged.specs.declared.answers.Answer.{Answer}
 use Rattle.tagged.proofs.FieldLists.{field-within}
 use Rattle.verilog.specs.Rules.{expression_width}
@@ -19,15 +19,15 @@ use Rattle.verilog_check.proofs.walk.processes_answer.Statement.{statement}
 use Rattle.verilog_check.proofs.walk.processes_answer.Tie as tie
 use Rattle.verilog_check.proofs.walk.processes_answer.Reads as reads
 use Rattle.verilog_check.proofs.walk.processes_answer.Lts as lts
-use Rattle.tagged.proofs.fields.payload_at.Reads as payload-at-reads
+use Rattle.tagged.proofs.declarations.payload_at.Reads as payload-at-reads
 use Rattle.tagged.proofs.fields.open_field.Reads as open-field-reads
 use Rattle.verilog_check.proofs.walk.process_answer.Reads as process-answer-reads
-use Rattle.tagged.proofs.answers.Answer.or_earlier.Reads as or-lower-reads
+use Rattle.tagged.proofs.answers.Answer.or_lower.Reads as or-lower-reads
 
 abbrev invariant-loop : tie.invariant-loop
 invariant-loop widths marks firsts list base best₀ at₀ process₀ best at process =
     let walk : ℕ → List (Placed Field) → Answer = walk_processes (field_answer widths marks firsts) (expression_width (variables_of widths)) in
-    (at ≤ length list) × (process ≤ at) × (walk 0 (fields_at base list) ≡ earlier_refusal best (walk process (fields_at (base + at) (drop at list))))
+    (at ≤ length list) × (process ≤ at) × (walk 0 (fields_at base list) ≡ lower_refusal best (walk process (fields_at (base + at) (drop at list))))
 
 abbrev decreases-loop : tie.decreases-loop
 decreases-loop widths marks firsts list base best₀ at₀ process₀ best at process = length list - at
@@ -74,7 +74,7 @@ loop-again c = let loop = c.before.before.before.before.before.before.before.bef
     let sort = c.before.before.before.before.sort in
     let payload-at = c.before.before.payload-at in
     let process-answer = c.before.process-answer in
-    (omega (arith, within c.before.before.before.before), omega (arith, within c.before.before.before.before), walk-next (process-steps _ _ _) _ loop.best _ _ _ loop.invariant.2 _ open-field.ensures _ _ sort.given.1 _ payload-at.ensures _ process-answer.ensures _ c.or-earlier.ensures)
+    (omega (arith, within c.before.before.before.before), omega (arith, within c.before.before.before.before), walk-next (process-steps _ _ _) _ loop.best _ _ _ loop.invariant.2 _ open-field.ensures _ _ sort.given.1 _ payload-at.ensures _ process-answer.ensures _ c.or-lower.ensures)
 
 enum_told : tie.Need-enum-told invariant-loop decreases-loop
 enum_told c = search rules

@@ -3,7 +3,7 @@ use mathlib.Core.Path.{ap, ◌∙◌}
 use mathlib.Core.List.{List}
 use Prim.Native.Nat.{ℕ}
 use lib.Seq.{sets}
-use Rattle.declarations.specs.Rows.{row_bytes}
+use Rattle.tagged.specs.Rows.{row_bytes}
 use Rattle.verilog_run.specs.Execution.{settled_state}
 use borrow.Author.Rules.{rules}
 use Rattle.verilog_run.proofs.cycle.run_processes.Statement.{statement}

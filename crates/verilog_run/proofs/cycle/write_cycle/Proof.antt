@@ -3,10 +3,10 @@ use mathlib.Core.Path.{refl, sym, ap}
 use native.Mathlib.Omega.{arith}
 use lib.ListN.{length, length-take}
 use lib.Seq.{length-take-le}
-use Rattle.declarations.specs.Declarations.{declarations_in}
+use Rattle.tagged.specs.Declarations.{declarations_in}
 use Rattle.tagged.proofs.AllBytesLaws.{read-bytes}
-use Rattle.declarations.proofs.RowLaws.{numbers-length}
-use Rattle.declarations.proofs.TableLaws.{count_fits, zeros-at}
+use Rattle.tagged.proofs.RowLaws.{numbers-length}
+use Rattle.tagged.proofs.TableLaws.{count_fits, zeros-at}
 use Rattle.verilog_check.proofs.AcceptedFile.{payload-short, variables-told, widths-room}
 use Rattle.verilog_run.proofs.CycleWritten.{processes-long, cycle-written}
 use borrow.Author.Rules.{rules}

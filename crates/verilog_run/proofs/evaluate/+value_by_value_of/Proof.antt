@@ -18,7 +18,7 @@ use Rattle.tagged.proofs.bytes.byte_at.Reads as byte-at-reads
 use Rattle.tagged.proofs.bytes.four_of.Reads as four-of-reads
 use Rattle.tagged.proofs.bytes.from.Reads as from-reads
 use Rattle.tagged.proofs.fields.open_field.Reads as open-field-reads
-use Rattle.declarations.proofs.rows.number_at.Reads as number-at-reads
+use Rattle.tagged.proofs.rows.number_at.Reads as number-at-reads
 use Rattle.verilog.proofs.reading.after_front.Reads as after-front-reads
 use Rattle.verilog_run.proofs.evaluate.one_of.Reads as one-of-reads
 use Rattle.verilog_run.proofs.evaluate.two_of.Reads as two-of-reads

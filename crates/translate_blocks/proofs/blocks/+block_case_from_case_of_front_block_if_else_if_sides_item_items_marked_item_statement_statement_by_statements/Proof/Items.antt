@@ -13,7 +13,7 @@ use Prim.Native.Nat.{ℕ, ◌+◌, ◌-◌, ◌^◌, ◌≤◌}
 use Rattle.translate_blocks.proofs.blocks.block.Reads as block
 use Rattle.translate_blocks.proofs.blocks.items.Reads as items
 use Rattle.translate_blocks.proofs.blocks.marked_item.Reads as marked-item
-use Rattle.tagged.proofs.fields.payload_at.Reads as payload-at-reads
+use Rattle.tagged.proofs.declarations.payload_at.Reads as payload-at-reads
 use Rattle.tagged.proofs.fields.open_field.Reads as open-field-reads
 use Rattle.translate_blocks.proofs.blocks.+block_case_from_case_of_front_block_if_else_if_sides_item_items_marked_item_statement_statement_by_statements.Lts-items as lts
 use Rattle.translate_blocks.proofs.blocks.+block_case_from_case_of_front_block_if_else_if_sides_item_items_marked_item_statement_statement_by_statements.Proof.Sizes.{block-below, items_at, marked-item-below}

@@ -10,7 +10,7 @@ use borrow.Author.Rules.{rules}
 use Prim.Native.Nat.{ℕ, ◌+◌, ◌-◌, ◌^◌, ◌≤◌}
 use Rattle.translate_blocks.proofs.blocks.statement.Reads as statement'
 use Rattle.translate_blocks.proofs.blocks.statements.Reads as statements
-use Rattle.tagged.proofs.fields.payload_at.Reads as payload-at-reads
+use Rattle.tagged.proofs.declarations.payload_at.Reads as payload-at-reads
 use Rattle.tagged.proofs.fields.open_field.Reads as open-field-reads
 use Rattle.translate_blocks.proofs.blocks.+block_case_from_case_of_front_block_if_else_if_sides_item_items_marked_item_statement_statement_by_statements.Lts-statements as lts
 use Rattle.translate_blocks.proofs.blocks.+block_case_from_case_of_front_block_if_else_if_sides_item_items_marked_item_statement_statement_by_statements.Proof.Sizes.{statement-below, statements-at}

@@ -7,7 +7,7 @@ use Rattle.verilog_check.proofs.WalkSteps.{item-of}
 use Rattle.verilog_check.proofs.walk.item.Reads as item
 use Rattle.verilog_check.proofs.walk.parts.Reads as parts
 use Rattle.verilog_check.proofs.judge.judge_item.Reads as judge-item-reads
-use Rattle.tagged.proofs.answers.Answer.or_earlier.Reads as or-lower-reads
+use Rattle.tagged.proofs.answers.Answer.or_lower.Reads as or-lower-reads
 use Rattle.verilog_check.proofs.walk.+item_part_parts_statement_statements.Lts-item as lts
 use Rattle.verilog_check.proofs.walk.+item_part_parts_statement_statements.Proof.Sizes.{item-at, parts_below}
 
@@ -22,7 +22,7 @@ module _ (t : ℕ) where
       let parts = c.before.parts in
       let judge = field_answer args.widths.now args.marks.now args.firsts.now args.process in
       own-joined (item-of judge _ _ _ _ _ _ (judge-item.ensures args.widths.now args.marks.now args.firsts.now args.process)) _
-      parts.ensures _ c.or-earlier.ensures
+      parts.ensures _ c.or-lower.ensures
 
   pub meets : {M : Type 1} → lts.Closed (calls t) (item-at t) item.Post M
   meets =

@@ -6,7 +6,7 @@ use Prim.Native.Nat.{ℕ, ◌≤◌, ◌+◌, ◌-◌}
 use native.Mathlib.Nat.{add-zero}
 use lib.ListN.{length, drop}
 use Rattle.tagged.specs.Fields.{fields_at}
-use Rattle.tagged.specs.Refusals.{earlier_refusal}
+use Rattle.tagged.specs.Refusals.{lower_refusal}
 use Rattle.tagged.proofs.FieldLists.{field-within}
 use Rattle.verilog.specs.Rules.{expression_width}
 use Rattle.verilog_check.specs.Tables.{variables_of}
@@ -15,9 +15,9 @@ use Rattle.verilog_check.specs.Walk.{Walker, walk_all, walk_part}
 use Rattle.verilog_check.proofs.WalkSteps.{payload-within, all-steps, walk-done, walk-next}
 use Rattle.verilog_check.proofs.walk.part.Reads as part
 use Rattle.verilog_check.proofs.walk.parts.Reads as parts
-use Rattle.tagged.proofs.fields.payload_at.Reads as payload-at-reads
+use Rattle.tagged.proofs.declarations.payload_at.Reads as payload-at-reads
 use Rattle.tagged.proofs.fields.open_field.Reads as open-field-reads
-use Rattle.tagged.proofs.answers.Answer.or_earlier.Reads as or-lower-reads
+use Rattle.tagged.proofs.answers.Answer.or_lower.Reads as or-lower-reads
 use Rattle.verilog_check.proofs.walk.+item_part_parts_statement_statements.Lts-parts as lts
 use Rattle.verilog_check.proofs.walk.+item_part_parts_statement_statements.Proof.Sizes.{part-below, parts_at}
 
@@ -27,7 +27,7 @@ calls t = (open-field-reads.Asked, open-field-reads.Learnt, payload-at-reads.Ask
 abbrev Inv-loop : lts.invariant-loop
 Inv-loop process widths marks firsts selector list base depth best₀ at₀ best at =
     let walk : Walker = walk_part (field_answer widths marks firsts process) (expression_width (variables_of widths)) depth selector in
-    (at ≤ length list) × (walk_all walk (fields_at base list) ≡ earlier_refusal best (walk_all walk (fields_at (base + at) (drop at list))))
+    (at ≤ length list) × (walk_all walk (fields_at base list) ≡ lower_refusal best (walk_all walk (fields_at (base + at) (drop at list))))
 
 abbrev μ-loop : lts.decreases-loop
 μ-loop process widths marks firsts selector list base depth best₀ at₀ best at = length list - at
@@ -72,7 +72,7 @@ module _ (t : ℕ) where
       let sort = c.before.before.before.before.sort in
       let payload-at = c.before.before.payload-at in
       let part = c.before.part in
-      (omega (arith, within c.before.before.before.before), walk-next (all-steps _) _ loop.best _ _ _ loop.invariant.1 _ open-field.ensures _ _ sort.given.1 _ payload-at.ensures _ part.ensures _ c.or-earlier.ensures)
+      (omega (arith, within c.before.before.before.before), walk-next (all-steps _) _ loop.best _ _ _ loop.invariant.1 _ open-field.ensures _ _ sort.given.1 _ payload-at.ensures _ part.ensures _ c.or-lower.ensures)
 
   returns : lts.Need-returns (calls t) (parts_at t) parts.Post Inv-loop μ-loop
   returns c =

@@ -11,7 +11,7 @@ use Rattle.verilog_check.proofs.walk.statement.Reads as statement'
 use Rattle.verilog_check.proofs.judge.judge_statement.Reads as judge-statement-reads
 use Rattle.verilog_check.proofs.judge.width_of.Reads as width-of-reads
 use Rattle.verilog_check.proofs.walk.before_parts.Reads as before-parts-reads
-use Rattle.tagged.proofs.answers.Answer.or_earlier.Reads as or-lower-reads
+use Rattle.tagged.proofs.answers.Answer.or_lower.Reads as or-lower-reads
 use Rattle.verilog_check.proofs.walk.+item_part_parts_statement_statements.Lts-statement as lts
 use Rattle.verilog_check.proofs.walk.+item_part_parts_statement_statements.Proof.Sizes.{parts_below, statement-at}
 
@@ -42,7 +42,7 @@ module _ (t : ℕ) where
       let parts = c.before.parts in
       let judge = field_answer args.widths.now args.marks.now args.firsts.now args.process in
       own-joined (statement-of judge _ _ _ _ _ if1.false _ sort.given.1 _ judge-statement.ensures _ width_of_lem.ensures) _
-      (behind (walk_part judge _ (args.depth - 1) width_of_lem.result) _ _ _ _ before-parts.ensures _ parts.ensures) _ c.or-earlier.ensures
+      (behind (walk_part judge _ (args.depth - 1) width_of_lem.result) _ _ _ _ before-parts.ensures _ parts.ensures) _ c.or-lower.ensures
 
   returns-4 : lts.Need-returns-4 (calls t) (statement-at t) statement'.Post
   returns-4 c = statement-other _ _ _ _ _ _ c.before.if1.false c.match.keys2

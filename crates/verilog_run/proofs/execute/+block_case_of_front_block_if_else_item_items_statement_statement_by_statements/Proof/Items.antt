@@ -11,7 +11,7 @@ use Rattle.verilog_run.specs.Execution.{state_of, run_items, run_block, run_item
 use Rattle.verilog_run.proofs.execute.block.Reads as block
 use Rattle.verilog_run.proofs.execute.item.Reads as item
 use Rattle.verilog_run.proofs.execute.items.Reads as items
-use Rattle.tagged.proofs.fields.payload_at.Reads as payload-at-reads
+use Rattle.tagged.proofs.declarations.payload_at.Reads as payload-at-reads
 use Rattle.tagged.proofs.fields.open_field.Reads as open-field-reads
 use Rattle.verilog_run.proofs.execute.item_value.Reads as item-value-reads
 use Rattle.verilog_run.proofs.execute.+block_case_of_front_block_if_else_item_items_statement_statement_by_statements.Lts-items as lts

@@ -10,7 +10,7 @@ use Rattle.verilog_run.proofs.ExecutionSteps.{payload-within, all_done, all-turn
 use Rattle.verilog_run.specs.Execution.{state_of, run_all, run_statement}
 use Rattle.verilog_run.proofs.execute.statement.Reads as statement'
 use Rattle.verilog_run.proofs.execute.statements.Reads as statements
-use Rattle.tagged.proofs.fields.payload_at.Reads as payload-at-reads
+use Rattle.tagged.proofs.declarations.payload_at.Reads as payload-at-reads
 use Rattle.tagged.proofs.fields.open_field.Reads as open-field-reads
 use Rattle.verilog_run.proofs.execute.+block_case_of_front_block_if_else_item_items_statement_statement_by_statements.Lts-statements as lts
 use Rattle.verilog_run.proofs.execute.+block_case_of_front_block_if_else_item_items_statement_statement_by_statements.Proof.Sizes.{statement-below, statements-at}

@@ -1,3 +1,0 @@
--- Laws of names.
-pub mod NameLaws
-pub mod Cases

@@ -1,2 +1,0 @@
--- Document 01, names.
-pub mod Names

@@ -1,0 +1,67 @@
+-- Laws of the code that looks for refusals 3 to 8 and 12: a match that found another cell and how many cells a file has.
+use mathlib.Core.Path.{◌≡◌, refl, sym, ap, ◌∙◌}
+use mathlib.Core.Bool.{false}
+use mathlib.Core.List.{List, [], ◌∷◌, ◌++◌, map}
+use Prim.Native.Nat.{ℕ, suc, ◌+◌, ◌*◌, ◌≤◌}
+use native.Mathlib.Omega.{arith}
+use lib.ListN.{length, length-map, length-append}
+use types.Run.{OneOf, miss}
+use denote.Enum.Declared as enums
+use Rattle.tagged.specs.Bytes.{two_bytes}
+use Rattle.tagged.specs.Fields.{field_bytes, all_bytes_of}
+use Rattle.tagged.specs.Declarations.{declaration_bytes}
+use Rattle.netlist.specs.declared.Cell.{Cell}
+use Rattle.netlist.specs.declared.Cell.TheVariants as Cell
+use Rattle.netlist.specs.Lists.{Netlist}
+use Rattle.netlist.specs.Form.{operand_bytes, cell_bytes, drive_bytes, netlist_payload}
+use Rattle.netlist.specs.Rules.{cell_outside}
+use Rattle.netlist.specs.WalkAnswers.{most_listed}
+use Rattle.netlist.proofs.CellBytes.{operand-length}
+use Rattle.netlist.specs.contracts.Cell as cells
+
+-- the cells without a bit number or an index, as a match counts them
+abbrev without_bit : List ℕ
+without_bit = 0 ∷ 1 ∷ 2 ∷ []
+
+pub no-bit : (c : Cell) → OneOf without_bit (enums.tag_of cells.the_type c) → false ≡ cell_outside c
+unfolding cell_outside
+no-bit (Cell.One op w a) k = refl
+no-bit (Cell.Two op w a b) k = refl
+no-bit (Cell.Mux w c a b) k = refl
+no-bit (Cell.Put w v n b) k = absurd (miss without_bit 3 tt k)
+no-bit (Cell.FixedBit w v n) k = absurd (miss without_bit 4 tt k)
+no-bit (Cell.ChosenBit w v i) k = absurd (miss without_bit 5 tt k)
+
+-- as many as there are numbers in their list
+pub counted : {A : Type 0} (f : A → ℕ) (items : List A) {l : List ℕ} → map f items ≡ l → length items ≡ length l
+counted f items e = sym (length-map items f) ∙ ap length e
+
+-- a cell takes at least ten bytes
+cell-bytes-least : (c : Cell) → 10 ≤ length (cell_bytes c)
+unfolding cell_bytes field_bytes two_bytes all_bytes_of
+cell-bytes-least (Cell.One op w a) = omega (arith, length-append (operand_bytes a) [], operand-length a)
+cell-bytes-least (Cell.Two op w a b) = omega (arith, length-append (operand_bytes a) (operand_bytes b ++ []), operand-length a)
+cell-bytes-least (Cell.Mux w c a b) = omega (arith, length-append (operand_bytes c) (operand_bytes a ++ (operand_bytes b ++ [])), operand-length c)
+cell-bytes-least (Cell.Put w v k b) = omega (arith, length-append (operand_bytes v) (k ∷ (operand_bytes b ++ [])), operand-length v)
+cell-bytes-least (Cell.FixedBit w v k) = omega (arith, length-append (operand_bytes v) (k ∷ []), operand-length v)
+cell-bytes-least (Cell.ChosenBit w v i) = omega (arith, length-append (operand_bytes v) (operand_bytes i ++ []), operand-length v)
+
+cells-bytes-least : (cs : List Cell) → length cs * 10 ≤ length (all_bytes_of cell_bytes cs)
+unfolding all_bytes_of
+cells-bytes-least [] = omega arith
+cells-bytes-least (c ∷ cs) =
+    let first = cell-bytes-least c in
+    let later = cells-bytes-least cs in
+    let both : length (cell_bytes c ++ all_bytes_of cell_bytes cs) ≡ length (cell_bytes c) + length (all_bytes_of cell_bytes cs) = length-append (cell_bytes c)
+    (all_bytes_of cell_bytes cs) in
+    let product : suc (length cs) * 10 ≡ 10 + length cs * 10 = omega arith in
+    omega arith
+
+-- so a payload of a file has no more cells than the table has room for
+pub few-cells : (n : Netlist) → length (netlist_payload n) ≤ 32765 → length n.cells ≤ most_listed
+unfolding netlist_payload
+few-cells n h =
+    let declared = all_bytes_of declaration_bytes n.declarations in
+    let celled = all_bytes_of cell_bytes n.cells in
+    let driven = all_bytes_of drive_bytes n.drives in
+    omega (arith, cells-bytes-least n.cells, length-append (declared ++ celled) driven, length-append declared celled)

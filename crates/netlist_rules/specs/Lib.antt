@@ -1,2 +1,0 @@
--- What the code of the rules computes on every input.
-pub mod WalkAnswers

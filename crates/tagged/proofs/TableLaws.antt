@@ -1,0 +1,150 @@
+-- The table of variables: what it holds at each index, and how a list of declarations fills it one by one.
+use mathlib.Core.Path.{◌≡◌, refl, sym, ap, ap₂, ◌∙◌}
+use mathlib.Core.List.{List, [], ◌∷◌, ◌++◌, map, append_assoc, append-nil}
+use Prim.Native.Nat.{ℕ, zero, suc, ◌+◌, ◌≤◌, ◌<◌}
+use native.Mathlib.Omega.{arith}
+use lib.ListN.{length, get_or, take, set, replicate, length-append, length-map, length-take}
+use Rattle.tagged.specs.Limits.{most_variables}
+use Rattle.tagged.specs.Declarations.{Declaration, width_of, sort_of_declaration, register_mark, table_of, variable_table, with_variable}
+use Rattle.tagged.specs.declared.declarations.VariableTable.{VariableTable}
+
+pub table-length : (n : ℕ) (l : List ℕ) → length (table_of n l) ≡ n
+unfolding table_of
+table-length zero l = refl
+table-length (suc n) [] = ap suc (table-length n [])
+table-length (suc n) (x ∷ l) = ap suc (table-length n l)
+
+-- below its length a table is as its list
+pub table_at : (n : ℕ) (l : List ℕ) (i : ℕ) → i < n → get_or (table_of n l) i 0 ≡ get_or l i 0
+unfolding table_of
+table_at zero l i h = absurd (omega arith)
+table_at (suc n) [] zero h = refl
+table_at (suc n) [] (suc i) h = table_at n [] i (omega arith)
+table_at (suc n) (x ∷ l) zero h = refl
+table_at (suc n) (x ∷ l) (suc i) h = table_at n l i (omega arith)
+
+-- a list that the table has room for stands in its front
+pub table-front : (n : ℕ) (l : List ℕ) → length l ≤ n → take (length l) (table_of n l) ≡ l
+unfolding table_of
+table-front zero [] h = refl
+table-front zero (x ∷ l) h = absurd (omega arith)
+table-front (suc n) [] h = refl
+table-front (suc n) (x ∷ l) h = ap (λ (y : List ℕ). x ∷ y) (table-front n l (omega arith))
+
+-- one number more, so far as there is room
+pub table_more : (n : ℕ) (l : List ℕ) (x : ℕ) → set (table_of n l) (length l) x ≡ table_of n (l ++ (x ∷ []))
+unfolding table_of
+table_more zero [] x = refl
+table_more zero (y ∷ l) x = refl
+table_more (suc n) [] x = refl
+table_more (suc n) (y ∷ l) x = ap (λ (z : List ℕ). y ∷ z) (table_more n l x)
+
+-- the numbers of a list and of one more
+pub mapped : {A : Type 0} (f : A → ℕ) (l : List A) (d : A) → map f (l ++ (d ∷ [])) ≡ map f l ++ (f d ∷ [])
+mapped f [] d = refl
+mapped f (c ∷ l) d = ap (λ (y : List ℕ). f c ∷ y) (mapped f l d)
+
+-- one column of the table
+column-more : (f : Declaration → ℕ) (l : List Declaration) (d : Declaration) → set (table_of most_variables (map f l)) (length l) (f d) ≡ table_of most_variables (map f (l ++ (d ∷ [])))
+column-more f l d =
+    ap (λ (k : ℕ). set (table_of most_variables (map f l)) k (f d)) (sym (length-map l f))
+    ∙ table_more most_variables (map f l) (f d) ∙ ap (table_of most_variables) (sym (mapped f l d))
+
+abbrev pub mark_of : Declaration → ℕ
+mark_of d = register_mark (sort_of_declaration d)
+
+-- the table of a list and one declaration more
+pub table-with : (l : List Declaration) (d : Declaration) → with_variable (variable_table l) (width_of d) (mark_of d) ≡ variable_table (l ++ (d ∷ []))
+unfolding with_variable variable_table
+table-with l d = λ i. record {
+  count = long i;
+  widths = column-more width_of l d i;
+  registers = column-more mark_of l d i;
+}
+  where
+    long : length l + 1 ≡ length (l ++ (d ∷ []))
+    long = sym (length-append l (d ∷ []))
+
+-- a table filled with the declarations of a list
+pub extend : VariableTable → List Declaration → VariableTable
+extend t [] = t
+extend t (d ∷ l) = extend (with_variable t (width_of d) (mark_of d)) l
+
+pub extend-table : (done l : List Declaration) → extend (variable_table done) l ≡ variable_table (done ++ l)
+unfolding extend
+extend-table done [] = ap variable_table (sym (append-nil done))
+extend-table done (d ∷ l) = ap (λ (t : VariableTable). extend t l) (table-with done d) ∙ extend-table (done ++ (d ∷ [])) l ∙ ap variable_table (append_assoc done (d ∷ []) l)
+
+-- the loop that fills a table: from the empty one, one turn, and the end
+pub extend-start : (l : List Declaration) → extend (record { count = 0; widths = replicate most_variables 0; registers = replicate most_variables 0 }) l ≡ variable_table l
+unfolding variable_table table_of
+extend-start l = extend-table [] l
+
+pub extend-more : {whole : VariableTable} (t : VariableTable) (l : List Declaration) (d : Declaration) (after : List Declaration) → l ≡ d ∷ after → extend t l ≡ whole →
+    (w m : ℕ) → w ≡ width_of d → m ≡ mark_of d → (r : VariableTable) → r ≡ with_variable t w m → extend r after ≡ whole
+unfolding extend
+extend-more t l d after more going w m we me r e = ap (λ (t : VariableTable). extend t after) (e ∙ ap₂ (with_variable t) we me) ∙ rw more at going
+
+pub extend-done : {whole : VariableTable} (t : VariableTable) (l : List Declaration) → l ≡ [] → extend t l ≡ whole → t ≡ whole
+unfolding extend
+extend-done t l none going = rw none at going
+
+pub with-count : (t : VariableTable) (w m : ℕ) (r : VariableTable) → r ≡ with_variable t w m → r.count ≡ t.count + 1
+unfolding with_variable
+with-count t w m r e = ap (λ (t : VariableTable). t.count) e
+
+-- the front of a table that has room for all
+module _ {A : Type 0} (f : A → ℕ) (room : ℕ) (items : List A) (few : length items ≤ room) (table : List ℕ) (held : table ≡ table_of room (map f items)) (count : ℕ)
+    (all : count ≡ length items) where
+  pub front-all : take count table ≡ map f items
+  front-all =
+      let long = length-map items f in
+      ap₂ take (all ∙ sym long) held ∙ table-front room (map f items) (omega arith)
+
+-- what a table of variables tells
+module _ (ds : List Declaration) (table : VariableTable) (made : table ≡ variable_table ds) where
+  pub told-widths : table.widths ≡ table_of most_variables (map width_of ds)
+  unfolding variable_table
+  told-widths = ap (λ (t : VariableTable). t.widths) made
+
+  pub told-marks : table.registers ≡ table_of most_variables (map mark_of ds)
+  unfolding variable_table
+  told-marks = ap (λ (t : VariableTable). t.registers) made
+
+  told-count : table.count ≡ length ds
+  unfolding variable_table
+  told-count = ap (λ (t : VariableTable). t.count) made
+
+  pub widths-long : length table.widths ≡ most_variables
+  widths-long = ap length told-widths ∙ table-length most_variables (map width_of ds)
+
+  pub marks-long : length table.registers ≡ most_variables
+  marks-long = ap length told-marks ∙ table-length most_variables (map mark_of ds)
+
+  module _ (told : ℕ) (whole : table.count ≤ most_variables → told ≡ table.count) (few : length ds ≤ most_variables) where
+    told-all : told ≡ length ds
+    told-all = whole (omega (arith, told-count)) ∙ told-count
+
+    pub widths-known : map width_of ds ≡ take told table.widths
+    widths-known = sym (front-all width_of most_variables ds few table.widths told-widths told told-all)
+
+    pub marks-known : map mark_of ds ≡ take told table.registers
+    marks-known = sym (front-all mark_of most_variables ds few table.registers told-marks told told-all)
+
+-- a table of all the variables, as many as it counts
+module _ (ds : List Declaration) (table : VariableTable) (made : table ≡ variable_table ds) (few : length ds ≤ most_variables) where
+  pub count_fits : table.count ≤ most_variables
+  unfolding variable_table
+  count_fits = omega (arith, ap (λ (t : VariableTable). t.count) made)
+
+  pub front-few : length (take table.count table.widths) ≤ most_variables
+  front-few = omega (arith, count_fits, length-take table.count table.widths)
+
+  pub widths-all : take table.count table.widths ≡ map width_of ds
+  widths-all = sym (widths-known ds table made table.count (λ h. refl) few)
+
+-- a new table holds zeros
+pub zeros-at : (n v : ℕ) → get_or {A = ℕ} (replicate n 0) v 0 ≡ 0
+zeros-at zero v = refl
+zeros-at (suc n) zero = refl
+zeros-at (suc n) (suc v) = zeros-at n v
