@@ -1,4 +1,6 @@
 // Document 01, "Either side of each line": the lines that are not proved by the table in proofs/, run by the proved code, a line each.
+#![tactic(auto)]
+
 use libc::STDOUT_FILENO;
 use response::put_refusal;
 use tagged::answers::Answer;

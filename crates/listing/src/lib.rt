@@ -1,4 +1,6 @@
 // The listing: the bytes behind an operand, as a part of one of two lent files.
+#![tactic(auto)]
+
 ghost use Rattle.std.specs.Prelude.{◌≡◌};
 ghost use Rattle.listing.specs.Listing.{settled_part, module_part, netlist_part, listed_part, part_bytes, listed_bytes};
 
@@ -9,7 +11,7 @@ use tagged::parts::Part;
 use verilog::parts::name_part;
 
 // Which file a part lies in, with its first byte and the byte past its last.
-#[derive(Drop)]
+#[derive(Clone, Copy)]
 pub enum Listed {
     Module(usize, usize),
     Netlist(usize, usize),

@@ -1,4 +1,6 @@
 // Netlists: declarations, cells in order, and one drive for each register.
+#![tactic(auto)]
+
 pub mod cycle;
 pub mod form;
 pub mod parts;
@@ -25,7 +27,7 @@ use tagged::rows::row_answer;
 use words::{OneOperand, TwoOperand};
 
 // What a cell or a drive takes: its width, and a constant's value or the number of a variable or of a cell.
-#[derive(Drop)]
+#[derive(Clone, Copy)]
 pub enum Operand {
     Constant(u8, u32),
     Variable(u8, u32),
@@ -33,7 +35,7 @@ pub enum Operand {
 }
 
 // The eleven cells, 30 to 3A: the width first, then the operands in the order of the file.
-#[derive(Drop)]
+#[derive(Clone, Copy)]
 pub enum Cell {
     One(OneOperand, u8, Operand),
     Two(TwoOperand, u8, Operand, Operand),
@@ -48,7 +50,7 @@ pub enum Cell {
 }
 
 // The new value of a register.
-#[derive(Drop)]
+#[derive(Clone, Copy)]
 pub struct Drive {
     pub variable: u8,
     pub operand: Operand,

@@ -68,7 +68,7 @@ pub fn drive_in(payload: &[u8]) -> Drive
 }
 
 // What stands next in a list of cells.
-#[derive(Drop)]
+#[derive(Clone, Copy)]
 pub enum NextCell {
     // A cell: its sort, and how many bytes of payload.
     Cell(CellSort, usize),
@@ -90,7 +90,7 @@ pub fn next_cell(part: &[u8]) -> NextCell
 }
 
 // What stands next in a list of drives.
-#[derive(Drop)]
+#[derive(Clone, Copy)]
 pub enum NextDrive {
     // A drive: how many bytes of payload.
     Drive(usize),

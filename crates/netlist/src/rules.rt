@@ -331,7 +331,7 @@ fn cells_answer(list: &[u8], base: usize, variables: &[u8], registers: &[u8]) ->
 }
 
 // The numbers of the registers, in rising order.
-#[derive(Drop)]
+#[derive(Clone, Copy)]
 pub struct RegisterNumbers {
     pub count: usize,
     pub numbers: [u8; Variables::MAX],

@@ -1,4 +1,6 @@
 // What a placement tool in C calls: four functions over byte slices, each of which answers with a struct of numbers.
+#![tactic(auto)]
+
 ghost use Rattle.std.specs.Prelude.{◌≡◌, length};
 ghost use Rattle.tagged.specs.Answers.{reply_of, translation_reply, Promise};
 ghost use Rattle.netlist.specs.Run as netlist-run;

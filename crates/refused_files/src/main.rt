@@ -1,4 +1,6 @@
 // Every file of examples/refused, whose copies stand in data/, handed to the proved calls; a line each, held to `stdout`.
+#![tactic(auto)]
+
 use libc::STDOUT_FILENO;
 use response::put_refusal;
 use tagged::answers::{Answer, Rule, Translation};

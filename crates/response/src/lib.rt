@@ -1,4 +1,6 @@
 // What the program writes, on slices: a netlist, or the text of a refusal.
+#![tactic(auto)]
+
 ghost use Rattle.std.specs.Prelude.{◌≡◌, ◌+◌, ◌^◌, ◌≤◌, length};
 ghost use Rattle.tagged.specs.Answers.{number_of, Promise};
 ghost use Rattle.tagged.specs.Bytes.{Wrote};

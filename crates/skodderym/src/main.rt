@@ -1,4 +1,6 @@
 // The program: a module from standard input, the netlist or "refused N at P" to standard output.
+#![tactic(auto)]
+
 use libc::{STDIN_FILENO, STDOUT_FILENO};
 use response::respond;
 use tagged::bytes::front;

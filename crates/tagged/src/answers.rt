@@ -4,7 +4,7 @@ ghost use Rattle.tagged.specs.Answers.{number_of, reply_of, translation_reply};
 ghost use Rattle.tagged.specs.Refusals.{lower_refusal};
 
 // What a refusal is given for, in the order in which document 01 looks for them.
-#[derive(Drop)]
+#[derive(Clone, Copy)]
 pub enum Rule {
     FileLength,
     Form,
@@ -23,7 +23,7 @@ pub enum Rule {
 }
 
 // What a check, a reading or a run answers.
-#[derive(Drop)]
+#[derive(Clone, Copy)]
 pub enum Answer {
     Accepted,
     // The rule, and the place.
@@ -31,7 +31,7 @@ pub enum Answer {
 }
 
 // What translating answers.
-#[derive(Drop)]
+#[derive(Clone, Copy)]
 pub enum Translation {
     // The netlist's length in bytes, and its count of cells.
     Written(usize, u32),
@@ -39,7 +39,7 @@ pub enum Translation {
 }
 
 // Where something was found.
-#[derive(Drop)]
+#[derive(Clone, Copy)]
 pub enum Found {
     Nowhere,
     At(usize),
@@ -47,7 +47,7 @@ pub enum Found {
 
 // An answer for C: number 0 is acceptance; `at` is the place, or the length of what was written.
 #[repr(C)]
-#[derive(Drop)]
+#[derive(Clone, Copy)]
 pub struct Reply {
     pub number: u32,
     pub cells: u32,

@@ -99,7 +99,7 @@ pub fn declared_bytes(payload: &[u8]) -> usize
 }
 
 // What stands next in a list of declarations.
-#[derive(Drop)]
+#[derive(Clone, Copy)]
 pub enum Next {
     // A declaration: its sort, and how many bytes of payload.
     Declaration(DeclarationSort, usize),
@@ -252,7 +252,7 @@ pub fn declarations_answer(list: &[u8], base: usize) -> Answer
 }
 
 // What the declarations say of each variable, for the first 64: its width, and 1 for a register.
-#[derive(Drop)]
+#[derive(Clone, Copy)]
 pub struct VariableTable {
     pub count: usize,
     pub widths: [u8; Variables::MAX],

@@ -6,7 +6,7 @@ use crate::bytes::number_of_two;
 use crate::sorts::{Sort, sort_of};
 
 // What stands at the front of a part.
-#[derive(Drop)]
+#[derive(Clone, Copy)]
 pub enum Opened {
     // A field: its sort, and how many bytes of payload.
     Field(Sort, usize),
@@ -15,14 +15,14 @@ pub enum Opened {
 }
 
 // What becomes of a payload.
-#[derive(Drop)]
+#[derive(Clone, Copy)]
 pub enum Judged {
     Fine,
     Refused(usize),
 }
 
 // What becomes of a field, or of several, at the front of a part.
-#[derive(Drop)]
+#[derive(Clone, Copy)]
 pub enum Step {
     // So many bytes are whole fields.
     Past(usize),

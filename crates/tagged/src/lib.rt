@@ -1,4 +1,6 @@
 // The tagged form: limits, answers, sorts of fields, numbers in bytes, fields, declarations, rows, and parts of a file.
+#![tactic(auto)]
+
 pub mod answers;
 pub mod bytes;
 pub mod declarations;

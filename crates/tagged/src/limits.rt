@@ -4,12 +4,12 @@ ghost use Rattle.tagged.specs.Limits.{deepest, most_cells, longest_name, most_va
 ghost use Rattle.tagged.specs.Made.{made_depth, made_cells, made_name, made_variables, made_processes, made_module_file, made_netlist_file};
 
 // How deep fields may lie in one another: the outer field has depth 1.
-#[derive(Drop)]
+#[derive(Clone, Copy)]
 pub struct Depth {
     pub levels: usize,
 }
 
-#[derive(Drop)]
+#[derive(Clone, Copy)]
 pub enum DepthMade {
     Good(Depth),
     Refused,
@@ -38,12 +38,12 @@ impl Depth {
 }
 
 // How many cells a netlist may have.
-#[derive(Drop)]
+#[derive(Clone, Copy)]
 pub struct Cells {
     pub count: usize,
 }
 
-#[derive(Drop)]
+#[derive(Clone, Copy)]
 pub enum CellsMade {
     Good(Cells),
     Refused,
@@ -72,12 +72,12 @@ impl Cells {
 }
 
 // How long a name is.
-#[derive(Drop)]
+#[derive(Clone, Copy)]
 pub struct Name {
     pub length: usize,
 }
 
-#[derive(Drop)]
+#[derive(Clone, Copy)]
 pub enum NameMade {
     Good(Name),
     Refused,
@@ -109,12 +109,12 @@ impl Name {
 }
 
 // How many variables, inputs and registers together, a file may declare.
-#[derive(Drop)]
+#[derive(Clone, Copy)]
 pub struct Variables {
     pub count: usize,
 }
 
-#[derive(Drop)]
+#[derive(Clone, Copy)]
 pub enum VariablesMade {
     Good(Variables),
     Refused,
@@ -143,12 +143,12 @@ impl Variables {
 }
 
 // How many processes a module may have.
-#[derive(Drop)]
+#[derive(Clone, Copy)]
 pub struct Processes {
     pub count: usize,
 }
 
-#[derive(Drop)]
+#[derive(Clone, Copy)]
 pub enum ProcessesMade {
     Good(Processes),
     Refused,
@@ -177,12 +177,12 @@ impl Processes {
 }
 
 // How long a module file is.
-#[derive(Drop)]
+#[derive(Clone, Copy)]
 pub struct ModuleFile {
     pub length: usize,
 }
 
-#[derive(Drop)]
+#[derive(Clone, Copy)]
 pub enum ModuleFileMade {
     Good(ModuleFile),
     Refused,
@@ -216,12 +216,12 @@ impl ModuleFile {
 }
 
 // How long a netlist file is.
-#[derive(Drop)]
+#[derive(Clone, Copy)]
 pub struct NetlistFile {
     pub length: usize,
 }
 
-#[derive(Drop)]
+#[derive(Clone, Copy)]
 pub enum NetlistFileMade {
     Good(NetlistFile),
     Refused,

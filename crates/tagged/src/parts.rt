@@ -6,7 +6,7 @@ use crate::bytes::from;
 use crate::declarations::{Next, fixed_bytes, next_declaration, payload_at};
 
 // From a first byte to the byte past the last.
-#[derive(Drop)]
+#[derive(Clone, Copy)]
 pub struct Part {
     pub start: usize,
     pub end: usize,

@@ -5,21 +5,21 @@ ghost use Rattle.tagged.specs.Sorts.{sort_of, declaration_sort, statement_sort, 
 use words::{OneOperand, TwoOperand};
 
 // Declarations, 02 and 03.
-#[derive(Drop)]
+#[derive(Clone, Copy)]
 pub enum DeclarationSort {
     Input,
     Register,
 }
 
 // How an assignment changes its variable.
-#[derive(Drop)]
+#[derive(Clone, Copy)]
 pub enum Kind {
     Blocking,
     NonBlocking,
 }
 
 // Statements, 10 to 15.
-#[derive(Drop)]
+#[derive(Clone, Copy)]
 pub enum StatementSort {
     Assign(Kind),
     AssignBit(Kind),
@@ -28,7 +28,7 @@ pub enum StatementSort {
 }
 
 // Expressions, 20 to 2A.
-#[derive(Drop)]
+#[derive(Clone, Copy)]
 pub enum ExpressionSort {
     Constant,
     Variable,
@@ -39,7 +39,7 @@ pub enum ExpressionSort {
 }
 
 // Cells, 30 to 3A.
-#[derive(Drop)]
+#[derive(Clone, Copy)]
 pub enum CellSort {
     One(OneOperand),
     Two(TwoOperand),
@@ -49,7 +49,7 @@ pub enum CellSort {
     ChosenBit,
 }
 
-#[derive(Drop)]
+#[derive(Clone, Copy)]
 pub enum Sort {
     Module,
     Declaration(DeclarationSort),

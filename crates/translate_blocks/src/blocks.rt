@@ -22,7 +22,7 @@ use verilog::reading::after_front;
 use words::TwoOperand;
 
 // Where the next byte goes, how many cells there are, and where the log ends.
-#[derive(Drop)]
+#[derive(Clone, Copy)]
 pub struct Progress {
     pub at: usize,
     pub cells: u32,

@@ -6,7 +6,7 @@ use netlist::Cell;
 use netlist::write::put_cell;
 
 // Where the next byte goes, and how many cells there are.
-#[derive(Drop)]
+#[derive(Clone, Copy)]
 pub struct Emission {
     pub at: usize,
     pub cells: u32,

@@ -20,7 +20,7 @@ use verilog::reading::after_front;
 use words::{OneOperand, TwoOperand};
 
 // Where the next byte goes, how many cells there are, and the operand that an expression is.
-#[derive(Drop)]
+#[derive(Clone, Copy)]
 pub struct Emitted {
     pub at: usize,
     pub cells: u32,

@@ -12,7 +12,7 @@ use netlist::rules::operand_width;
 use netlist::{Cell, Operand};
 
 // The word that an entry has after a merge, where the next byte goes, and how many cells there are.
-#[derive(Drop)]
+#[derive(Clone, Copy)]
 pub struct MergedEntry {
     pub word: u64,
     pub at: usize,

@@ -1,4 +1,6 @@
 // The call `translate`: a module's file in, its netlist out; refusals 1 to 13.
+#![tactic(auto)]
+
 pub mod passes;
 
 ghost use Rattle.std.specs.Prelude.{◌≡◌, length};

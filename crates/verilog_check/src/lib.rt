@@ -1,4 +1,6 @@
 // The check of a module: refusals 1 to 11.
+#![tactic(auto)]
+
 pub mod judge;
 pub mod rules;
 pub mod survey;

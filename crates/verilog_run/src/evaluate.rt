@@ -11,7 +11,7 @@ use verilog::reading::after_front;
 use words::{OneOperand, TwoOperand, bit, one_result, two_result};
 
 // A number with the width of its vector.
-#[derive(Drop)]
+#[derive(Clone, Copy)]
 pub struct Number {
     pub width: u8,
     pub number: u32,

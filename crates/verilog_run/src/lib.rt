@@ -1,4 +1,6 @@
 // One cycle of a module, from a row into another: refusals 1 to 11 and 14.
+#![tactic(auto)]
+
 pub mod cycle;
 pub mod evaluate;
 pub mod execute;

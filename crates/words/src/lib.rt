@@ -1,4 +1,6 @@
 // Values of a width, 1 to 32 bits: widths, single bits, and the operators that expressions and cells share.
+#![tactic(auto)]
+
 ghost use Rattle.std.specs.Prelude.{◌≡◌, ◌≤◌, ◌<◌, ◌^◌};
 ghost use Rattle.words.specs.Limits.{greatest_width};
 ghost use Rattle.words.specs.Widths.{made_width, fits_width, index_within};
@@ -7,13 +9,13 @@ ghost use Rattle.words.specs.Operators.{one_width, one_number, two_width, two_nu
 ghost use Rattle.words.specs.Results.{one_result, two_result, put_result};
 
 // How many bits a value has.
-#[derive(Drop)]
+#[derive(Clone, Copy)]
 pub struct Width {
     pub bits: u8,
 }
 
 // What making a width answers.
-#[derive(Drop)]
+#[derive(Clone, Copy)]
 pub enum WidthMade {
     Good(Width),
     Refused,
@@ -45,14 +47,14 @@ impl Width {
 }
 
 // The operators of one operand: expressions 24 and 2A, cells 30 and 3A.
-#[derive(Drop)]
+#[derive(Clone, Copy)]
 pub enum OneOperand {
     Not,
     Parity,
 }
 
 // The operators of two operands: expressions 25 to 29, cells 31 to 35.
-#[derive(Drop)]
+#[derive(Clone, Copy)]
 pub enum TwoOperand {
     And,
     Or,

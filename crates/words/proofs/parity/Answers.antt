@@ -2,12 +2,8 @@
 use Rattle.words.specs.Limits.{greatest_width}
 use Rattle.words.specs.Bits.{parity}
 use Rattle.words.proofs.WidthLaws.{ones-parity}
-use Rattle.words.proofs.parity.Statement.{statement}
-use Rattle.words.proofs.parity.Tie as tie
+use Rattle.words.proofs.parity.Goals as goal
 
-returns : tie.Need-returns
+pub returns : goal.returns
 unfolding parity
 returns c = ones-parity greatest_width c.args.value c.ranges.value.fits
-
-pub parity-spec : {M : Type 1} → statement M
-parity-spec = tie.close (tie.spec returns)

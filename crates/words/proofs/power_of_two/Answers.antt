@@ -2,11 +2,7 @@
 use native.Mathlib.Omega.{arith}
 use borrow.Author.Rules.{rules}
 use Rattle.words.proofs.BitLaws.{shl_one}
-use Rattle.words.proofs.power_of_two.Statement.{statement}
-use Rattle.words.proofs.power_of_two.Tie as tie
+use Rattle.words.proofs.power_of_two.Goals as goal
 
-returns : tie.Need-returns
+pub returns : goal.returns
 returns c = shl_one c.args.width 64 (omega arith)
-
-pub power-of-two-spec : {M : Type 1} → statement M
-power-of-two-spec = tie.close (tie.spec (λ c. search rules) returns)

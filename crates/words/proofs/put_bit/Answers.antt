@@ -1,4 +1,5 @@
 -- `words::put_bit` meets its contract: the old bit in its place is within the value, and the result is within 32 bits. Assumes nothing.
+-- what the code's shift gives
 use mathlib.Core.Path.{◌≡◌}
 use Prim.Native.Nat.{ℕ, ◌+◌, ◌-◌, ◌*◌, ◌%◌, ◌^◌, ◌≤◌, ◌<◌}
 use native.Mathlib.Nat.{lt_of_lt_of_le}
@@ -9,14 +10,13 @@ use Rattle.words.specs.Limits.{greatest_width}
 use Rattle.words.specs.Bits.{bit, put_bit}
 use Rattle.words.proofs.BitLaws.{bit-lt, shl_one, old-le}
 use Rattle.words.proofs.WidthLaws.{put_bit-lt}
-use Rattle.words.proofs.put_bit.Statement.{statement}
-use Rattle.words.proofs.put_bit.Tie as tie
+use Rattle.words.proofs.put_bit.Goals as goal
 
--- what the code's shift gives
 abbrev place : ℕ → ℕ
 place k = (1 * 2 ^ k) % 2 ^ greatest_width
 
 -- a bit at that place fits
+
 placed : (k d : ℕ) → k < greatest_width → d < 2 → d * place k < 2 ^ greatest_width
 placed k d hk hd = rw (shl_one k greatest_width hk) (lt_of_lt_of_le (shl_lt 1 k hd) (pow_mono {j = greatest_width} (omega arith)))
 
@@ -32,24 +32,17 @@ module _ (v k old : ℕ) (hk : k < greatest_width) (q : old ≡ bit v k) where
   within : (b : ℕ) → v < 2 ^ greatest_width → b < 2 → (v - old * place k) + b * place k < 2 ^ greatest_width
   within b hv hb = rw (is b) (put_bit-lt greatest_width v k b hv hk hb)
 
-mul-result : tie.Need-overflow-mul-result
-mul-result c = record { fits = placed _ _ c.before.requires.0 (rw c.bit.ensures (bit-lt _ _)) }
+pub overflow_mul-result : goal.overflow_mul-result
+overflow_mul-result c = record { fits = placed _ _ c.requires.0 (rw c.bit-old.ensures (bit-lt _ _)) }
 
-sub-result : tie.Need-overflow-sub-result
-sub-result c = was _ _ _ c.before.requires.0 c.bit.ensures
+pub overflow_sub-result : goal.overflow_sub-result
+overflow_sub-result c = was _ _ _ c.requires.0 c.bit-old.ensures
 
-mul-result-2 : tie.Need-overflow-mul-result-2
-mul-result-2 c = record { fits = placed _ _ c.before.requires.0 c.before.requires.1 }
+pub overflow_mul-result-2 : goal.overflow_mul-result-2
+overflow_mul-result-2 c = record { fits = placed _ _ c.requires.0 c.requires.1 }
 
-add-result : tie.Need-overflow-add-result
-add-result c =
-    let given = c.before in
-    record { fits = within _ _ _ given.requires.0 c.bit.ensures _ given.ranges.value.fits given.requires.1 }
+pub overflow_add-result : goal.overflow_add-result
+overflow_add-result c = record { fits = within _ _ _ c.requires.0 c.bit-old.ensures _ c.ranges.value.fits c.requires.1 }
 
-returns : tie.Need-returns
-returns c = is _ _ _ c.before.requires.0 c.bit.ensures _
-
-pub put-bit-spec : {M : Type 1} → statement M
-put-bit-spec =
-    tie.close
-    (tie.spec (λ c. search rules) (λ c κs. search rules) mul-result sub-result mul-result-2 add-result returns)
+pub returns : goal.returns
+returns c = is _ _ _ c.requires.0 c.bit-old.ensures _
