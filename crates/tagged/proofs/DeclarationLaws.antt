@@ -34,14 +34,10 @@ use Rattle.tagged.specs.contracts.answers.Rule as rules
 use Rattle.tagged.proofs.FieldLaws.{Whole, open-whole}
 use Rattle.tagged.proofs.ListLaws.{read-end, read-stop, read_more, read-anywhere}
 
--- the variants of a sort but a declaration, as a match counts them
-abbrev but_declaration : List ℕ
-but_declaration = 0 ∷ 2 ∷ 3 ∷ 4 ∷ 5 ∷ 6 ∷ 7 ∷ 8 ∷ 9 ∷ 10 ∷ []
-
 -- a match that found another sort
-pub not-declaration : (s : Sort) → OneOf but_declaration (enums.tag_of sorts.the_type s) → is_declaration s ≡ false
+pub not-declaration : (s : Sort) → ((d : DeclarationSort) → s ≡ Sort.Declaration d → ⊥) → is_declaration s ≡ false
 not-declaration Sort.Module k = refl
-not-declaration (Sort.Declaration d) k = absurd (miss but_declaration 1 tt k)
+not-declaration (Sort.Declaration d) k = absurd (k d refl)
 not-declaration Sort.Process k = refl
 not-declaration (Sort.Statement s) k = refl
 not-declaration Sort.Item k = refl
@@ -202,24 +198,20 @@ pub count-taken : (l : List Declaration) (count : ℕ) (d : Declaration) → cou
 unfolding count_broken
 count-taken l count d h = ap (leb most_variables) (length-take-le count l h)
 
--- the variants of a rule but those that declarations break, as a match counts them
-abbrev other_rules : List ℕ
-other_rules = 0 ∷ 1 ∷ 5 ∷ 6 ∷ 7 ∷ 8 ∷ 9 ∷ 10 ∷ 11 ∷ 12 ∷ 13 ∷ []
-
 -- a match that found another rule
-pub other-rule : (rule : Rule) → OneOf other_rules (enums.tag_of rules.the_type rule) → (earlier : List Declaration) (d : Declaration) → declaration_breaks rule earlier d ≡ false
+pub other-rule : (rule : Rule) → (rule ≡ Rule.Value → ⊥) → (rule ≡ Rule.Name → ⊥) → (rule ≡ Rule.Count → ⊥) → (earlier : List Declaration) (d : Declaration) → declaration_breaks rule earlier d ≡ false
 unfolding declaration_breaks
-other-rule Rule.FileLength k earlier d = refl
-other-rule Rule.Form k earlier d = refl
-other-rule Rule.Value k earlier d = absurd (miss other_rules 2 tt k)
-other-rule Rule.Name k earlier d = absurd (miss other_rules 3 tt k)
-other-rule Rule.Count k earlier d = absurd (miss other_rules 4 tt k)
-other-rule Rule.Reference k earlier d = refl
-other-rule Rule.Widths k earlier d = refl
-other-rule Rule.BitNumber k earlier d = refl
-other-rule Rule.BothKinds k earlier d = refl
-other-rule Rule.TwoProcesses k earlier d = refl
-other-rule Rule.ReadElsewhere k earlier d = refl
-other-rule Rule.Cells k earlier d = refl
-other-rule Rule.Buffer k earlier d = refl
-other-rule Rule.Row k earlier d = refl
+other-rule Rule.FileLength v n c earlier d = refl
+other-rule Rule.Form v n c earlier d = refl
+other-rule Rule.Value v n c earlier d = absurd (v refl)
+other-rule Rule.Name v n c earlier d = absurd (n refl)
+other-rule Rule.Count v n c earlier d = absurd (c refl)
+other-rule Rule.Reference v n c earlier d = refl
+other-rule Rule.Widths v n c earlier d = refl
+other-rule Rule.BitNumber v n c earlier d = refl
+other-rule Rule.BothKinds v n c earlier d = refl
+other-rule Rule.TwoProcesses v n c earlier d = refl
+other-rule Rule.ReadElsewhere v n c earlier d = refl
+other-rule Rule.Cells v n c earlier d = refl
+other-rule Rule.Buffer v n c earlier d = refl
+other-rule Rule.Row v n c earlier d = refl

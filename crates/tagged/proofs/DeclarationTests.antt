@@ -36,10 +36,11 @@ pub fits_not : (w v : ℕ) → not (fits_width w v) ≡ true → 2 ^ w ≤ v
 fits_not w v e = ltb-false v (2 ^ w) (not-true _ e)
 
 -- what may not be a name
-other_byte_lem : {l : List ℕ} {b : ℕ} → Memᴰ b l → is_name_byte b ≡ false → all_name_bytes l ≡ false
+other_byte_lem : {b : ℕ} {l : List ℕ} → Memᴰ b l → is_name_byte b ≡ false → all_name_bytes l ≡ false
 unfolding all_name_bytes
 other_byte_lem {l = a ∷ l} (Memᴰ.head same) h = not_first (is_name_byte a) _ (rw same at h)
 other_byte_lem {l = a ∷ l} (Memᴰ.tail m) h = not-second (is_name_byte a) (other_byte_lem m h)
+other_byte_lem {b = b} {l = []} x5 h = elim x5 [ ]
 
 byte-other : (name l : List ℕ) → ((b : ℕ) → Memᴰ b l → Memᴰ b name) → all_name_bytes l ≡ false → NoName name
 unfolding all_name_bytes
@@ -73,10 +74,11 @@ no_name_lem {l} (digit_first {b} e h) =
     not_first (is_name_length (length l) && not (is_digit (get_or l 0 0))) _ (not-second (is_name_length (length l)) (not-not-so digit))
 
 -- a name taken
-taken : (name : List ℕ) {earlier : List Declaration} {e : Declaration} → Memᴰ e earlier → name_of e ≡ name → name_taken name earlier ≡ true
+taken : (name : List ℕ) {e : Declaration} {earlier : List Declaration} → Memᴰ e earlier → name_of e ≡ name → name_taken name earlier ≡ true
 unfolding name_taken
 taken name {earlier = d ∷ earlier} (Memᴰ.head same) h = or_left (same_name (name_of d) name) _ (rw (← h, same) (same_refl (name_of d)))
 taken name {earlier = d ∷ earlier} (Memᴰ.tail m) h = or_right (same_name (name_of d) name) (taken name m h)
+taken name {e = e} {earlier = []} x5 h = elim x5 [ ]
 
 record Taken (name : List ℕ) (earlier : List Declaration) : Type 0 where
   pub by : Declaration

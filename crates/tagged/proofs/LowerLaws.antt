@@ -45,6 +45,7 @@ lower-joined (Answer.Refused r p) (Answer.Refused s q) (Answer.Refused t u) = go
 first_above : {broken : Rule → Found} {from : ℕ} {rules : List Rule} {k : Rule} {p : ℕ} → Rising from rules → FirstRule broken k p rules → from ≤ number_of k
 first_above (rise low r) (here same h) = omega (arith, low, ap number_of same)
 first_above (rise low r) (later h f) = omega (arith, low, first_above r f)
+first_above {broken = broken} {k = k} {p = p} (done {from = from}) x4 = elim x4 [ ]
 
 -- a rule that is looked for earlier, against the answer of later ones
 module _ {rule : Rule} {rules : List Rule} (r : Rising (suc (number_of rule)) rules) (broken : Rule → Found) (place : ℕ) where

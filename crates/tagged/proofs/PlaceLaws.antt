@@ -91,7 +91,7 @@ module _ {A : Type 0} (bytes : A → List ℕ) where
     pub stands : Stands (placed_by bytes base l) before place x
     pub within : length before < length l
 
-  pub member-stands : (base : ℕ) {l : List A} {x : A} → Memᴰ x l → Somewhere base l x
+  pub member-stands : {x : A} (base : ℕ) {l : List A} → Memᴰ x l → Somewhere base l x
   unfolding placed_by
   member-stands base (Memᴰ.head e) = record { before = []; place = base; stands = first refl (sym e); within = omega arith }
   member-stands base {l = a ∷ l} (Memᴰ.tail m) =
@@ -118,3 +118,4 @@ module _ {A : Type 0} (bytes : A → List ℕ) where
 pub placed-stands : {A : Type 0} (l : List (Placed A)) {x : Placed A} → Memᴰ x l → (before : List A) × Stands l before x.place x.what
 placed-stands (y ∷ l) (Memᴰ.head e) = ([], first (ap (λ z. z.place) (sym e)) (ap (λ z. z.what) (sym e)))
 placed-stands (y ∷ l) (Memᴰ.tail m) = let s = placed-stands l m in (y.what ∷ s.0, next s.1)
+placed-stands {A = A} [] x3 = elim x3 [ ]

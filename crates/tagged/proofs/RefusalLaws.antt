@@ -144,6 +144,7 @@ order-rising from (r ∷ rules) e =
 pub rising-above : {from : ℕ} {rules : List Rule} {k : Rule} → Rising from rules → Memᴰ k rules → from ≤ number_of k
 rising-above (rise l r) (Memᴰ.head e) = rw e l
 rising-above (rise l r) (Memᴰ.tail m) = omega (arith, rising-above r m)
+rising-above {k = k} (done {from = from}) x4 = elim x4 [ ]
 
 first-least : {r j : Rule} {rules : List Rule} → Rising (suc (number_of r)) rules → Memᴰ j (r ∷ rules) → number_of r ≤ number_of j
 first-least r (Memᴰ.head e) = omega (arith, ap number_of e)
@@ -198,6 +199,7 @@ module _ (broken : Rule → Found) where
   pub none_each : {rules : List Rule} → NoneBroken rules → (k : Rule) → Memᴰ k rules → broken k ≡ Found.Nowhere
   none_each (more h u) k (Memᴰ.head e) = rw e h
   none_each (more h u) k (Memᴰ.tail m) = none_each u k m
+  none_each none k x3 = elim x3 [ ]
 
   pub each_none : (rules : List Rule) → ((k : Rule) → Memᴰ k rules → broken k ≡ Found.Nowhere) → NoneBroken rules
   each_none [] h = none
@@ -209,12 +211,14 @@ module _ (broken : Rule → Found) where
   first-lower (rise l r) (here same h) j m less = absurd (omega (arith, ap number_of same, first-least r m))
   first-lower (rise l r) (later h f) j (Memᴰ.head e) less = rw e h
   first-lower (rise l r) (later h f) j (Memᴰ.tail m) less = first-lower r f j m less
+  first-lower {k = k} {p = p} (done {from = from}) x10 j m less = elim x10 [ ]
 
   pub lower-first : {k : Rule} {p from : ℕ} {rules : List Rule} → Rising from rules → Memᴰ k rules → broken k ≡ Found.At p →
       ((j : Rule) → Memᴰ j rules → number_of j < number_of k → broken j ≡ Found.Nowhere) → FirstRule k p rules
   lower-first (rise l r) (Memᴰ.head e) h n = here e h
   lower-first {rules = q ∷ rules} (rise l r) (Memᴰ.tail m) h n =
       later (n q (Memᴰ.head refl) (rising-above r m)) (lower-first r m h (λ j i less. n j (Memᴰ.tail i) less))
+  lower-first {k = k} {p = p} (done {from = from}) x10 h n = elim x10 [ ]
 
   -- the rule is in the list, and has the place
   pub first-broken : {k : Rule} {p : ℕ} {rules : List Rule} → FirstRule k p rules → broken k ≡ Found.At p

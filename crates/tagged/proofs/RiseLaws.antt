@@ -31,6 +31,7 @@ module _ {A : Type 0} where
   pub rise-least : {low high q : ℕ} {l : List (Placed A)} {b : List A} {y : A} → Rise low l high → Stands l b q y → low ≤ q
   rise-least (more h r) (first i j) = omega arith
   rise-least (more h r) (next s) = let k = rise-least r s in omega arith
+  rise-least {q = q} {b = b} {y = y} (none {low = low} {high = high} _) x6 = elim x6 [ ]
 
   -- where places rise, what stands earlier stands at a smaller place
   pub earlier-smaller : {low high p q : ℕ} {l : List (Placed A)} {b c : List A} {x y : A} → Rise low l high →
@@ -39,6 +40,7 @@ module _ {A : Type 0} where
   earlier-smaller (more h r) (first i j) (next s) less = let k = rise-least r s in omega arith
   earlier-smaller (more h r) (next s) (first e f) less = absurd (omega arith)
   earlier-smaller (more h r) (next s) (next t) less = earlier-smaller r s t (omega arith)
+  earlier-smaller {p = p} {q = q} {b = b} {c = c} {y = y} (none {low = low} {high = high} _) x19 _ less = elim x19 [ ]
 
   -- what stands after as many stands at the same place
   pub same_place : {p q : ℕ} {l : List (Placed A)} {b c : List A} {x y : A} → Stands l b q y → Stands l c p x → length b ≡ length c → q ≡ p
@@ -73,6 +75,7 @@ module _ {A : Type 0} where
   before-earlier (next {y = z} s) (Memᴰ.tail m) =
       let f = before-earlier s m in
       record { before = z.what ∷ f.before; place = f.place; stands = next f.stands; fewer = omega arith }
+  before-earlier (first {y = y} {l = l} {p = p} _ _) x14 = elim x14 [ ]
 
   pub earlier-before : {p q : ℕ} {l : List (Placed A)} {b c : List A} {x y : A} → Stands l b q y → Stands l c p x → length b < length c → Memᴰ y c
   earlier-before (first i j) (first e f) less = absurd (omega arith)
@@ -88,3 +91,4 @@ module _ {A : Type 0} where
   pub in-stands : (l : List (Placed A)) {y : A} → Memᴰ y (unplaced l) → (b : List A) × (q : ℕ) × Stands l b q y
   in-stands (z ∷ l) (Memᴰ.head e) = ([], z.place, first {y = z} refl (sym e))
   in-stands (z ∷ l) (Memᴰ.tail m) = let f = in-stands l m in (z.what ∷ f.0, f.1, next f.2)
+  in-stands [] {y = y} x' = elim x' [ ]

@@ -1,0 +1,91 @@
+-- `tagged::declarations::declaration_broken` meets its contract: what is passed breaks nothing, so the whole is as the rest. Assumes nothing.
+use mathlib.Core.Path.{◌≡◌, sym, ap, ◌∙◌}
+use mathlib.Core.List.{[]}
+use Prim.Native.Nat.{◌+◌, ◌-◌, ◌≤◌}
+use native.Mathlib.Nat.{add-zero}
+use native.Mathlib.Omega.{arith}
+use lib.ListN.{length, take, drop}
+use Rattle.tagged.specs.Refusals.{first_broken}
+use Rattle.tagged.specs.Declarations.{declaration_in, declarations_in, declarations_at, declaration_breaks}
+use Rattle.tagged.proofs.DeclarationWalks.{here-within, here-more, here-placed, here-ended, Walked, walked_start, walked_more, walked-before, broken-none, broken-here, broken-later}
+use borrow.Author.Rules.{rules}
+use Rattle.tagged.proofs.declarations.declaration_broken.Goals as goal
+
+pub loop-sort-init : goal.loop-sort-init
+loop-sort-init c = (search rules, walked_start c.args.list.now, rw add-zero)
+
+pub returns-in-Ended : goal.returns-in-Ended
+returns-in-Ended c =
+    let args = c.args in
+    let loop = c.loop-sort in
+    let next-declaration = c.next_declaration in
+    broken-none (declaration_breaks args.rule) args.base args.list.now loop.at loop.count loop.invariant.2
+    (here-ended args.list.now _ _ next-declaration.ensures _ c.in-Ended.is)
+
+pub payload_at-requires : goal.payload_at-requires
+payload_at-requires c =
+    let args = c.args in
+    let next-declaration = c.next_declaration in
+    let pre = c.requires in
+    (omega (arith, here-within args.list.now _ _ next-declaration.ensures _ _ c.in-Declaration.is), omega (arith, pre))
+
+pub declaration_breaks-requires : goal.declaration_breaks-requires
+declaration_breaks-requires c =
+    let pre = c.requires in
+    let loop = c.loop-sort in
+    (omega (arith, pre), loop.invariant.1.counted, omega (arith, pre, loop.invariant.1.sized, loop.invariant.0))
+
+pub returns-then-declaration_breaks : goal.returns-then-declaration_breaks
+returns-then-declaration_breaks c =
+    let args = c.args in
+    let loop = c.loop-sort in
+    let next-declaration = c.next_declaration in
+    let payload-at = c.payload_at in
+    let declaration-breaks = c.declaration_breaks in
+    let if1 = c.if-declaration_breaks in
+    broken-here (declaration_breaks args.rule) args.base args.list.now loop.at loop.count loop.invariant.2 _ _
+    (here-placed args.list.now _ _ next-declaration.ensures args.base _ _ c.in-Declaration.is)
+    (ap (λ l. declaration_breaks args.rule (take loop.count (declarations_in args.list.now)) (declaration_in c.in-Declaration.sort l)) (sym payload-at.ensures) ∙ sym declaration-breaks.ensures ∙ if1.true)
+
+pub overflow_add-at : goal.overflow_add-at
+overflow_add-at c =
+    let args = c.args in
+    let next-declaration = c.next_declaration in
+    let pre = c.requires in
+    omega (arith, here-within args.list.now _ _ next-declaration.ensures _ _ c.in-Declaration.is, pre)
+
+pub overflow_add-at-in-Declaration : goal.overflow_add-at-in-Declaration
+overflow_add-at-in-Declaration c =
+    let args = c.args in
+    let next-declaration = c.next_declaration in
+    let pre = c.requires in
+    omega (arith, here-within args.list.now _ _ next-declaration.ensures _ _ c.in-Declaration.is, pre)
+
+pub overflow_add-count : goal.overflow_add-count
+overflow_add-count c =
+    let pre = c.requires in
+    let loop = c.loop-sort in
+    omega (arith, pre, loop.invariant.1.sized, loop.invariant.0)
+
+pub loop-sort-smaller : goal.loop-sort-smaller
+loop-sort-smaller c =
+    let args = c.args in
+    let next-declaration = c.next_declaration in
+    omega (arith, here-within args.list.now _ _ next-declaration.ensures _ _ c.in-Declaration.is)
+
+pub loop-sort-preserved : goal.loop-sort-preserved
+loop-sort-preserved c =
+    let args = c.args in
+    let next-declaration = c.next_declaration in
+    let loop = c.loop-sort in
+    let payload-at = c.payload_at in
+    let declaration-breaks = c.declaration_breaks in
+    let if1 = c.if-declaration_breaks in
+    let more = here-more args.list.now _ _ next-declaration.ensures _ _ c.in-Declaration.is in (
+      omega (arith, here-within args.list.now _ _ next-declaration.ensures _ _ c.in-Declaration.is),
+      walked_more args.list.now loop.at loop.count (loop.at + 3 + c.in-Declaration.size) loop.invariant.1 _ more (omega arith),
+      broken-later (declaration_breaks args.rule) args.base args.list.now loop.at loop.count loop.invariant.2 _ _
+          (here-placed args.list.now _ _ next-declaration.ensures args.base _ _ c.in-Declaration.is)
+          (ap (λ l. declaration_breaks args.rule (take loop.count (declarations_in args.list.now)) (declaration_in c.in-Declaration.sort l)) (sym payload-at.ensures) ∙ sym declaration-breaks.ensures ∙ if1.false)
+          (walked-before args.list.now loop.at loop.count (loop.at + 3 + c.in-Declaration.size) loop.invariant.1 _ more),
+    )

@@ -1,0 +1,77 @@
+-- `tagged::declarations::declarations` meets its contract: what is passed is fine, so the whole is the bytes passed and then the rest. Assumes nothing.
+use mathlib.Core.Path.{◌≡◌, sym, ap, ◌∙◌}
+use Prim.Native.Nat.{◌+◌, ◌-◌, ◌≤◌}
+use native.Mathlib.Nat.{add-zero}
+use native.Mathlib.Omega.{arith}
+use lib.ListN.{length, drop}
+use borrow.Author.Tests.{not-true, not-false}
+use Rattle.tagged.specs.Sorts.{sort_of, is_declaration}
+use Rattle.tagged.specs.Fields.{further, field_by, many}
+use Rattle.tagged.specs.Declarations.{declaration_body, declarations_step}
+use Rattle.tagged.proofs.ByteLaws.{front}
+use Rattle.tagged.proofs.FieldLaws.{past-within}
+use Rattle.tagged.proofs.ListLaws.{further-zero, turn-done, turn-stop, turn-refused, turn-past}
+use borrow.Author.Rules.{rules}
+use Rattle.tagged.proofs.declarations.declarations.Goals as goal
+
+pub loop-at-init : goal.loop-at-init
+loop-at-init c = (search rules, rw (add-zero, further-zero))
+
+pub returns-then-not-begins_declaration : goal.returns-then-not-begins_declaration
+unfolding declarations_step
+returns-then-not-begins_declaration c =
+    let args = c.args in
+    let loop = c.loop-at in
+    let loop-test = c.loop-at-test in
+    let begins-declaration = c.begins_declaration in
+    let if1 = c.if-not-begins_declaration in
+    turn-stop is_declaration (field_by declaration_body) _ _ args.part.now _ loop.invariant.1 loop-test.true
+    (ap (λ x. is_declaration (sort_of x)) (front args.part.now loop.at) ∙ sym begins-declaration.ensures ∙ if1.true)
+
+pub overflow_add-at : goal.overflow_add-at
+overflow_add-at c =
+    let declaration = c.declaration in
+    let declaration-arg = c.declaration-arg-1 in
+    omega (arith, past-within declaration_body _ _ _ _ _ declaration.ensures c.in-Past.is, declaration-arg.given)
+
+pub loop-at-smaller : goal.loop-at-smaller
+loop-at-smaller c =
+    let declaration = c.declaration in
+    let declaration-arg = c.declaration-arg-1 in
+    omega (arith, past-within declaration_body _ _ _ _ _ declaration.ensures c.in-Past.is, declaration-arg.given)
+
+pub loop-at-preserved : goal.loop-at-preserved
+loop-at-preserved c =
+    let declaration = c.declaration in
+    let declaration-arg = c.declaration-arg-1 in
+    let args = c.args in
+    let loop = c.loop-at in
+    let loop-test = c.loop-at-test in
+    let begins-declaration = c.begins_declaration in
+    let if1 = c.if-not-begins_declaration in (
+      omega (arith, past-within declaration_body _ _ _ _ _ declaration.ensures c.in-Past.is, declaration-arg.given),
+      turn-past is_declaration (field_by declaration_body) _ _ args.part.now _ loop.invariant.1 loop-test.true
+          (ap (λ x. is_declaration (sort_of x)) (front args.part.now loop.at) ∙ sym begins-declaration.ensures ∙ if1.false) _ declaration.ensures _
+          c.in-Past.is (past-within declaration_body _ _ _ _ _ declaration.ensures c.in-Past.is),
+    )
+
+pub returns-in-Refused : goal.returns-in-Refused
+unfolding declarations_step
+returns-in-Refused c =
+    let args = c.args in
+    let loop = c.loop-at in
+    let loop-test = c.loop-at-test in
+    let begins-declaration = c.begins_declaration in
+    let if1 = c.if-not-begins_declaration in
+    let declaration = c.declaration in
+    turn-refused is_declaration (field_by declaration_body) _ _ args.part.now _ loop.invariant.1 loop-test.true
+    (ap (λ x. is_declaration (sort_of x)) (front args.part.now loop.at) ∙ sym begins-declaration.ensures ∙ if1.false) _ declaration.ensures _
+    c.in-Refused.is
+
+pub returns : goal.returns
+unfolding declarations_step
+returns c =
+    let args = c.args in
+    let loop = c.loop-at in
+    let loop-test = c.loop-at-test in
+    turn-done is_declaration (field_by declaration_body) _ _ args.part.now _ loop.invariant.1 loop-test.false

@@ -1,0 +1,27 @@
+-- `tagged::rows::read_row` meets its contract: at each turn the numbers read and those still in the row are the row's. Assumes nothing.
+use mathlib.Core.Path.{◌≡◌, refl, ap}
+use mathlib.Core.List.{◌++◌}
+use Prim.Native.Nat.{◌*◌, ◌-◌}
+use native.Mathlib.Nat.{sub-zero}
+use native.Mathlib.Omega.{arith}
+use lib.ListN.{length, take, drop, length-set}
+use Rattle.tagged.specs.Rows.{row_numbers}
+use Rattle.tagged.proofs.RowLaws.{read-turn, read_done}
+use borrow.Author.Rules.{rules}
+use Rattle.tagged.proofs.rows.read_row.Goals as goal
+
+pub loop-at-init : goal.loop-at-init
+loop-at-init c = (refl, ap (λ n. row_numbers n c.args.row.now) (sub-zero _))
+
+pub loop-at-preserved : goal.loop-at-preserved
+loop-at-preserved c =
+    let a = c.args in
+    let l = c.loop-at in
+    let same = l.invariant.0 in
+    (simp length-set same, read-turn a.row.now (length a.values.now) l.at _ _ c.from.ensures c.four_of.ensures (omega arith) l.values same l.invariant.1)
+
+pub returns : goal.returns
+returns c =
+    let a = c.args in
+    let l = c.loop-at in
+    read_done a.row.now l.values (length a.values.now) l.at l.invariant.0 (omega arith) l.invariant.1

@@ -1,0 +1,16 @@
+use mathlib.Core.Path.{◌≡◌, refl, ap}
+use mathlib.Core.List.{◌++◌}
+use Prim.Native.Nat.{◌*◌, ◌-◌}
+use native.Mathlib.Nat.{sub-zero}
+use native.Mathlib.Omega.{arith}
+use lib.ListN.{length, take, drop, length-set}
+use Rattle.tagged.specs.Rows.{row_numbers}
+use Rattle.tagged.proofs.RowLaws.{read-turn, read_done}
+use borrow.Author.Rules.{rules}
+use Rattle.tagged.proofs.rows.read_row.Given as goal
+
+abbrev pub invariant-loop-at : goal.invariant-loop-at
+invariant-loop-at l = (length l.values ≡ length l.initial.values) × (take l.at l.values ++ row_numbers (length l.initial.values - l.at) (drop (4 * l.at) l.row) ≡ row_numbers (length l.initial.values) l.row)
+
+abbrev pub decreases-loop-at : goal.decreases-loop-at
+decreases-loop-at l = length l.initial.values - l.at

@@ -1,0 +1,35 @@
+-- `tagged::rows::write_row` meets its contract: at each turn the bytes of the values passed are written. Assumes nothing.
+use Prim.Native.Nat.{◌-◌}
+use native.Mathlib.Omega.{arith}
+use lib.ListN.{length, take, length-take}
+use Rattle.tagged.specs.Bytes.{Wrote}
+use Rattle.tagged.specs.Fields.{all_bytes_of}
+use Rattle.tagged.specs.Rows.{row_bytes}
+use Rattle.tagged.proofs.WriteLaws.{wrote_none, wrote-length}
+use Rattle.tagged.proofs.RowLaws.{bytes-length, write-turn, write_done}
+use borrow.Author.Rules.{rules}
+use Rattle.tagged.proofs.rows.write_row.Goals as goal
+
+pub loop-at-init : goal.loop-at-init
+unfolding all_bytes_of
+loop-at-init c = wrote_none
+
+pub put_four-place-requires : goal.put_four-place-requires
+put_four-place-requires c =
+    let l = c.loop-at in
+    let values = c.args.values.now in
+    omega (arith, l.invariant.past, bytes-length (take l.at values), length-take l.at values)
+
+pub loop-at-preserved : goal.loop-at-preserved
+loop-at-preserved c =
+    let l = c.loop-at in
+    let values = c.args.values.now in
+    write-turn values l.at c.loop-at-test.true l.invariant c.put_four-place.ensures
+
+pub shape_of-next : goal.shape_of-next
+shape_of-next c = wrote-length c.loop-at.invariant
+
+pub returns : goal.returns
+returns c =
+    let l = c.loop-at in
+    write_done c.args.values.now l.at c.loop-at-test.false l.invariant

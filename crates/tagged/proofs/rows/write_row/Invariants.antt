@@ -1,0 +1,16 @@
+use Prim.Native.Nat.{◌-◌}
+use native.Mathlib.Omega.{arith}
+use lib.ListN.{length, take, length-take}
+use Rattle.tagged.specs.Bytes.{Wrote}
+use Rattle.tagged.specs.Fields.{all_bytes_of}
+use Rattle.tagged.specs.Rows.{row_bytes}
+use Rattle.tagged.proofs.WriteLaws.{wrote_none, wrote-length}
+use Rattle.tagged.proofs.RowLaws.{bytes-length, write-turn, write_done}
+use borrow.Author.Rules.{rules}
+use Rattle.tagged.proofs.rows.write_row.Given as goal
+
+abbrev pub invariant-loop-at : goal.invariant-loop-at
+invariant-loop-at l = Wrote l.initial.next 0 (row_bytes (take l.at l.values)) l.next l.place
+
+abbrev pub decreases-loop-at : goal.decreases-loop-at
+decreases-loop-at l = length l.values - l.at
