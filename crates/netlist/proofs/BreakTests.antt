@@ -33,9 +33,10 @@ use Rattle.tagged.proofs.DeclarationTests.{no-width, width-no, not-fits, fits_no
 use Rattle.tagged.proofs.PlaceLaws.{BrokenAt, broken_at}
 
 -- some operand
-some : (test : Operand → Bool) {l : List Operand} {o : Operand} → Memᴰ o l → test o ≡ true → some_operand test l ≡ true
+some : (test : Operand → Bool) {o : Operand} {l : List Operand} → Memᴰ o l → test o ≡ true → some_operand test l ≡ true
 some test {l = a ∷ l} (Memᴰ.head same) h = or_left (test a) _ (rw same at h)
 some test {l = a ∷ l} (Memᴰ.tail m) h = or_right (test a) (some test m h)
+some test {o = o} {l = []} x5 h = elim x5 [ ]
 
 record Some (test : Operand → Bool) (l : List Operand) : Type 0 where
   pub which : Operand

@@ -377,7 +377,7 @@ pub cell-bytes : (c : Cell) → FitsCell c → AllBytes (cell_bytes c)
 unfolding cell_bytes
 cell-bytes c h =
     field-bytes (tag_of (Sort.Cell (cell_sort_of c))) (cell_width c ∷ all_bytes_of slot_bytes (cell_slots c)) (tag-bounds (cell_sort_of c)).1
-    (bytes-cons (cell_width c) (all_bytes_of slot_bytes (cell_slots c)) h.0 (all-bytes slot_bytes (cell_slots c) (λ x m. slot-bytes x (every-member FitsSlot h.1 x m))))
+    (bytes-cons (cell_width c) (all_bytes_of slot_bytes (cell_slots c)) h.0 (all-bytes slot_bytes (cell_slots c) (λ x m. slot-bytes x (every-member FitsSlot x h.1 m))))
 
 -- drives
 

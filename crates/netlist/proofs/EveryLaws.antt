@@ -7,9 +7,10 @@ use Rattle.tagged.proofs.AllBytesLaws.{bytes-none, bytes-cons}
 use Rattle.netlist.specs.Fits.{Every, FitsByte}
 
 module _ {A : Type 0} (P : A → Type 0) where
-  pub every-member : {l : List A} → Every P l → (a : A) → Memᴰ a l → P a
-  every-member h a (Memᴰ.head e) = rw e h.0
-  every-member h a (Memᴰ.tail m) = every-member h.1 a m
+  pub every-member : (a : A) {l : List A} → Every P l → Memᴰ a l → P a
+  every-member a {l = []} h m = elim m [ ]
+  every-member a {l = x ∷ l} h (Memᴰ.head e) = rw e h.0
+  every-member a {l = x ∷ l} h (Memᴰ.tail m) = every-member a h.1 m
 
   pub member-every : (l : List A) → ((a : A) → Memᴰ a l → P a) → Every P l
   member-every [] h = tt

@@ -70,26 +70,12 @@ operand-first CellSort.Put = (a_byte ∷ an_operand ∷ [], refl)
 operand-first CellSort.FixedBit = (a_byte ∷ [], refl)
 operand-first CellSort.ChosenBit = (an_operand ∷ [], refl)
 
--- the variants of a sort but one, as a match counts them
-abbrev but_cell : List ℕ
-but_cell = 0 ∷ 1 ∷ 2 ∷ 3 ∷ 4 ∷ 5 ∷ 6 ∷ 8 ∷ 9 ∷ 10 ∷ []
-
-abbrev but_drive : List ℕ
-but_drive = 0 ∷ 1 ∷ 2 ∷ 3 ∷ 4 ∷ 5 ∷ 6 ∷ 7 ∷ 9 ∷ 10 ∷ []
-
-abbrev but_netlist : List ℕ
-but_netlist = 0 ∷ 1 ∷ 2 ∷ 3 ∷ 4 ∷ 5 ∷ 6 ∷ 7 ∷ 8 ∷ 10 ∷ []
-
--- the variant of a sort, as a match counts it
-abbrev variant : Sort → ℕ
-variant s = enums.tag_of sorts.the_type s
-
 -- a match that found another sort than a cell
-pub not-cell : (s : Sort) → OneOf but_cell (variant s) → is_cell s ≡ false
+pub not-cell : (s : Sort) → ((c : CellSort) → s ≡ Sort.Cell c → ⊥) → is_cell s ≡ false
 not-cell s k = go (is_cell s) refl
   where
     go : (t : Bool) → is_cell s ≡ t → t ≡ false
-    go true is = absurd (miss but_cell 7 tt (subst (λ (s : Sort). OneOf but_cell (variant s)) (cell-sort s is).1 k))
+    go true is = absurd (k (cell-sort s is).0 (cell-sort s is).1)
     go false is = refl
 
 -- a sort that is not another one
@@ -127,17 +113,17 @@ module _ (at : ℕ) (s : Sort) (l : List ℕ) where
   unfolding drive_body slots_by
   drive-slotted e w wn = wn ∙ rw (e, eq-eqb (tag_of Sort.Drive) (tag_of Sort.Drive) refl)
 
-  pub drive-other : OneOf but_drive (variant s) → Judged.Refused at ≡ drive_body at s l
+  pub drive-other : (s ≡ Sort.Drive → ⊥) → Judged.Refused at ≡ drive_body at s l
   unfolding drive_body
-  drive-other k = rw (not-sort Sort.Drive s (λ e. miss but_drive 8 tt (subst (λ (s : Sort). OneOf but_drive (variant s)) e k)))
+  drive-other k = rw (not-sort Sort.Drive s k)
 
   pub netlist-lists : s ≡ Sort.Netlist → (w : Judged) → w ≡ then_by declarations_step (then_by cells_step drives_judge) (at + 3) at l → w ≡ netlist_body at s l
   unfolding netlist_body
   netlist-lists e w wn = wn ∙ rw (e, eq-eqb (tag_of Sort.Netlist) (tag_of Sort.Netlist) refl)
 
-  pub netlist-other : OneOf but_netlist (variant s) → Judged.Refused at ≡ netlist_body at s l
+  pub netlist-other : (s ≡ Sort.Netlist → ⊥) → Judged.Refused at ≡ netlist_body at s l
   unfolding netlist_body
-  netlist-other k = rw (not-sort Sort.Netlist s (λ e. miss but_netlist 9 tt (subst (λ (s : Sort). OneOf but_netlist (variant s)) e k)))
+  netlist-other k = rw (not-sort Sort.Netlist s k)
 
 -- cells that are passed lie within the list
 pub cells-within : (base owner : ℕ) (l : List ℕ) (r : Step) (m : ℕ) → r ≡ cells_step base owner l → r ≡ Step.Past m → m ≤ length l

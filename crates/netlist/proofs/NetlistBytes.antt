@@ -109,15 +109,15 @@ module _ (n : Netlist) (h : FitsBytes n) where
   vs = all_bytes_of drive_bytes n.drives
 
   each-declaration : Each is_declaration declaration_body declaration_read declaration_bytes n.declarations
-  each-declaration = each_stands is_declaration declaration_body declaration_read declaration_bytes n.declarations (λ x m. fits-stands x (every-member FitsDeclaration h.declarations x m))
+  each-declaration = each_stands is_declaration declaration_body declaration_read declaration_bytes n.declarations (λ x m. fits-stands x (every-member FitsDeclaration x h.declarations m))
 
   each-cell : Each is_cell cell_body cell_read cell_bytes n.cells
-  each-cell = each_stands is_cell cell_body cell_read cell_bytes n.cells (λ x m. cell-stands x (every-member FitsCell h.cells x m))
+  each-cell = each_stands is_cell cell_body cell_read cell_bytes n.cells (λ x m. cell-stands x (every-member FitsCell x h.cells m))
 
   each-drive : Each (is_sort Sort.Drive) drive_body drive_read drive_bytes n.drives
   unfolding tag_of
   each-drive =
-      each_stands (is_sort Sort.Drive) drive_body drive_read drive_bytes n.drives (λ x m. drive-stands (is_sort Sort.Drive) refl x (every-member FitsDrive h.drives x m))
+      each_stands (is_sort Sort.Drive) drive_body drive_read drive_bytes n.drives (λ x m. drive-stands (is_sort Sort.Drive) refl x (every-member FitsDrive x h.drives m))
 
   payload-is : netlist_payload n ≡ ds ++ (cs ++ vs)
   unfolding netlist_payload ds cs vs
@@ -197,9 +197,9 @@ module _ (n : Netlist) (h : FitsBytes n) where
   written-bytes =
       field-bytes (tag_of Sort.Netlist) (netlist_payload n) (lit< tt)
       (bytes-append (ds ++ cs) vs
-      (bytes-append ds cs (all-bytes declaration_bytes n.declarations (λ x m. declaration-bytes x (every-member FitsDeclaration h.declarations x m)))
-      (all-bytes cell_bytes n.cells (λ x m. cell-bytes x (every-member FitsCell h.cells x m))))
-      (all-bytes drive_bytes n.drives (λ x m. drive-bytes x (every-member FitsDrive h.drives x m))))
+      (bytes-append ds cs (all-bytes declaration_bytes n.declarations (λ x m. declaration-bytes x (every-member FitsDeclaration x h.declarations m)))
+      (all-bytes cell_bytes n.cells (λ x m. cell-bytes x (every-member FitsCell x h.cells m))))
+      (all-bytes drive_bytes n.drives (λ x m. drive-bytes x (every-member FitsDrive x h.drives m))))
 
 -- those bytes read back as the same lists
 pub read-written : (n : Netlist) → FitsBytes n → (netlist_form (netlist_bytes n) ≡ Step.Past (length (netlist_bytes n))) × (netlist_in (netlist_bytes n) ≡ n)

@@ -26,16 +26,12 @@ use Rattle.netlist.specs.Reading.{cell_in, cell_read, drive_in, drive_read, next
 use Rattle.netlist.proofs.CellBytes.{cell-sort}
 use Rattle.tagged.proofs.SortLaws.{same-sort}
 
--- the variants of a sort but a drive, as a match counts them
-abbrev but_drive : List ℕ
-but_drive = 0 ∷ 1 ∷ 2 ∷ 3 ∷ 4 ∷ 5 ∷ 6 ∷ 7 ∷ 9 ∷ 10 ∷ []
-
 -- a match that found another sort
-pub not-drive : (s : Sort) → OneOf but_drive (enums.tag_of sorts.the_type s) → is_sort Sort.Drive s ≡ false
+pub not-drive : (s : Sort) → (s ≡ Sort.Drive → ⊥) → is_sort Sort.Drive s ≡ false
 not-drive s k = go (is_sort Sort.Drive s) refl
   where
     go : (t : Bool) → is_sort Sort.Drive s ≡ t → t ≡ false
-    go true e = absurd (miss but_drive 8 tt (subst (λ (s : Sort). OneOf but_drive (enums.tag_of sorts.the_type s)) (same-sort Sort.Drive s e) k))
+    go true e = absurd (k (same-sort Sort.Drive s e))
     go false e = refl
 
 pub other-than-cell : {A : Type 0} (s : Sort) (f : CellSort → A) (other : A) → is_cell s ≡ false → on_cell s f other ≡ other

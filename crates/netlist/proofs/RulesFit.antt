@@ -101,6 +101,7 @@ operand-fits-rules ds cells (Operand.Cell w n) h k e f =
 operands-pass : (test : Operand → Bool) (l : List Operand) → some_operand test l ≡ false → {o : Operand} → Memᴰ o l → test o ≡ false
 operands-pass test (a ∷ l) e (Memᴰ.head same) = rw same (neither (test a) (some_operand test l) e).0
 operands-pass test (a ∷ l) e (Memᴰ.tail m) = operands-pass test l (neither (test a) (some_operand test l) e).1 m
+operands-pass test [] e {o = o} x'' = elim x'' [ ]
 
 -- cells
 

@@ -50,6 +50,7 @@ all_hold : (l : List Run) → all_agree l ≡ true → (r : Run) → Memᴰ r l 
 all_hold (c ∷ l) e r (Memᴰ.head same) =
     rw same (agrees-equal (netlist_cycle c.netlist c.row) c.gives ((and-eq-true_iff _ (all_agree l)).0 e).0)
 all_hold (c ∷ l) e r (Memᴰ.tail m) = all_hold l ((and-eq-true_iff (agrees (netlist_cycle c.netlist c.row) c.gives) _).0 e).1 r m
+all_hold [] e r x'' = elim x'' [ ]
 
 -- the variables: 0 input a of 1 bit, 1 register r of 4, 2 input i of 3, 3 input v of 8
 abbrev declared : List Declaration

@@ -1,0 +1,85 @@
+-- `netlist::cycle::run_cells` meets its contract: the values so far, with the numbers of the rest of the list, are those of the list. Assumes nothing.
+use mathlib.Core.Path.{◌≡◌, refl, ap, ◌∙◌}
+use Prim.Native.Nat.{ℕ, ◌-◌, ◌≤◌}
+use lib.ListN.{length, drop, length-set}
+use Rattle.tagged.specs.Fields.{unplaced}
+use Rattle.tagged.specs.declared.fields.Step.TheVariants as Step
+use Rattle.netlist.specs.Form.{cells_step}
+use Rattle.netlist.specs.Reading.{cell_in, cells_at}
+use Rattle.netlist.specs.Numbers.{cell_number, cell_numbers}
+use Rattle.netlist.proofs.RuleWalks.{CellsLeft, left-start, cell-within, cell-more, cell-none, left-more, left-none}
+use Rattle.netlist.proofs.RunWalks.{numbers-turn, numbers-done}
+use borrow.Author.Rules.{rules}
+use native.Mathlib.Omega.{arith}
+use Rattle.netlist.proofs.cycle.run_cells.Goals as goal
+
+pub loop-sort-init : goal.loop-sort-init
+loop-sort-init c =
+    let args = c.args in
+    (search rules, search rules, refl, refl, λ m e. left-start args.list.now m e)
+
+pub shape_of-values-in-Ended : goal.shape_of-values-in-Ended
+shape_of-values-in-Ended c = c.loop-sort.invariant.2
+
+pub returns-in-Ended : goal.returns-in-Ended
+returns-in-Ended c =
+    let args = c.args in
+    let loop = c.loop-sort in
+    let next-cell = c.next_cell in
+    record {
+      numbers = numbers-done args.row.now loop.values loop.count _ (cell-none args.list.now _ _ next-cell.ensures c.in-Ended.is) loop.invariant.3;
+      ends = λ m e. left-none args.list.now _ _ next-cell.ensures m (loop.invariant.4 m e) c.in-Ended.is;
+    }
+
+pub payload_at-requires : goal.payload_at-requires
+payload_at-requires c =
+    let args = c.args in
+    let next-cell = c.next_cell in
+    let pre = c.requires in
+    (omega (arith, cell-within args.list.now _ _ next-cell.ensures _ _ c.in-Cell.is), pre)
+
+pub overflow_add-at : goal.overflow_add-at
+overflow_add-at c =
+    let args = c.args in
+    let next-cell = c.next_cell in
+    let pre = c.requires in
+    omega (arith, cell-within args.list.now _ _ next-cell.ensures _ _ c.in-Cell.is, pre)
+
+pub overflow_add-at-in-Cell : goal.overflow_add-at-in-Cell
+overflow_add-at-in-Cell c =
+    let args = c.args in
+    let next-cell = c.next_cell in
+    let pre = c.requires in
+    omega (arith, cell-within args.list.now _ _ next-cell.ensures _ _ c.in-Cell.is, pre)
+
+pub overflow_add-count : goal.overflow_add-count
+overflow_add-count c =
+    let args = c.args in
+    let next-cell = c.next_cell in
+    let loop = c.loop-sort in
+    let pre = c.requires in
+    omega (arith, cell-within args.list.now _ _ next-cell.ensures _ _ c.in-Cell.is, loop.invariant.1, pre)
+
+pub loop-sort-smaller : goal.loop-sort-smaller
+loop-sort-smaller c =
+    let args = c.args in
+    let next-cell = c.next_cell in
+    omega (arith, cell-within args.list.now _ _ next-cell.ensures _ _ c.in-Cell.is)
+
+pub loop-sort-preserved : goal.loop-sort-preserved
+loop-sort-preserved c =
+    let args = c.args in
+    let next-cell = c.next_cell in
+    let loop = c.loop-sort in
+    let put-number = c.put_number in
+    let cell-number = c.cell_number-number in
+    let by_cell_in = c.cell_in-cell in
+    let payload-at = c.payload_at in (
+      omega (arith, cell-within args.list.now _ _ next-cell.ensures _ _ c.in-Cell.is),
+      omega (arith, loop.invariant.1),
+      ap length put-number.ensures ∙ length-set loop.values loop.count _ ∙ loop.invariant.2,
+      numbers-turn args.row.now loop.values loop.count _ _ _ (cell-more args.list.now _ _ next-cell.ensures _ _ c.in-Cell.is) loop.invariant.3 _
+          (cell-number.ensures ∙ ap (cell_number args.row.now loop.values) (by_cell_in.ensures ∙ ap (cell_in c.in-Cell.sort) payload-at.ensures))
+          _ put-number.ensures,
+      λ m e. left-more args.list.now _ _ next-cell.ensures m (loop.invariant.4 m e) _ _ c.in-Cell.is,
+    )

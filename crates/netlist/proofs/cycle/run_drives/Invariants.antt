@@ -1,0 +1,18 @@
+use mathlib.Core.Path.{◌≡◌, refl, ap, ◌∙◌}
+use Prim.Native.Nat.{◌-◌, ◌≤◌}
+use lib.ListN.{length, drop, length-set}
+use Rattle.tagged.specs.Fields.{unplaced}
+use Rattle.netlist.specs.Reading.{drive_in, drives_at}
+use Rattle.netlist.specs.Numbers.{driven_numbers}
+use Rattle.netlist.proofs.RuleWalks.{drive-within, drive-more, drive-none}
+use Rattle.netlist.proofs.RunWalks.{driven-turn, driven-done}
+use borrow.Author.Rules.{rules}
+use native.Mathlib.Omega.{arith}
+use Rattle.netlist.proofs.cycle.run_drives.Given as goal
+
+abbrev pub invariant-loop-size : goal.invariant-loop-size
+invariant-loop-size l = (l.at ≤ length l.list) × (length l.next ≡ length l.initial.next)
+    × (driven_numbers l.row l.values l.next (unplaced (drives_at 0 (drop l.at l.list))) ≡ driven_numbers l.row l.values l.initial.next (unplaced (drives_at 0 l.list)))
+
+abbrev pub decreases-loop-size : goal.decreases-loop-size
+decreases-loop-size l = length l.list - l.at

@@ -1,0 +1,39 @@
+-- `netlist::form::cell` meets its contract: by the laws of one field. Assumes nothing.
+use mathlib.Core.Path.{sym, ◌∙◌}
+use native.Mathlib.Omega.{arith}
+use Rattle.netlist.specs.Form.{cell_body}
+use Rattle.tagged.proofs.FieldLaws.{open-whole, field-refused, field_past}
+use borrow.Author.Rules.{rules}
+use Rattle.netlist.proofs.form.cell.Goals as goal
+
+pub overflow_add-size : goal.overflow_add-size
+overflow_add-size c =
+    let args = c.args in
+    let open-field = c.open_field in
+    omega (arith, (open-whole _ _ args.part.now (sym open-field.ensures ∙ c.in-Field.is)).within)
+
+pub slice_bounds-cell_body-end : goal.slice_bounds-cell_body-end
+slice_bounds-cell_body-end c =
+    let args = c.args in
+    let open-field = c.open_field in
+    omega (arith, (open-whole _ _ args.part.now (sym open-field.ensures ∙ c.in-Field.is)).within)
+
+pub overflow_add-size-in-Field : goal.overflow_add-size-in-Field
+overflow_add-size-in-Field c =
+    let args = c.args in
+    let open-field = c.open_field in
+    omega (arith, (open-whole _ _ args.part.now (sym open-field.ensures ∙ c.in-Field.is)).within)
+
+pub returns-in-Field : goal.returns-in-Field
+returns-in-Field c =
+    let args = c.args in
+    let open-field = c.open_field in
+    let cell-body = c.cell_body in
+    let passed = c.passed in
+    field_past _ _ args.part.now _ open-field.ensures cell_body _ _ c.in-Field.is _ cell-body.ensures _ passed.ensures
+
+pub returns-in-Refused : goal.returns-in-Refused
+returns-in-Refused c =
+    let args = c.args in
+    let open-field = c.open_field in
+    field-refused _ _ args.part.now _ open-field.ensures cell_body _ c.in-Refused.is

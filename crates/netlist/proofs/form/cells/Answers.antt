@@ -1,0 +1,77 @@
+-- `netlist::form::cells` meets its contract: what is passed is fine, so the whole is the bytes passed and then the rest. Assumes nothing.
+use mathlib.Core.Path.{◌≡◌, sym, ap, ◌∙◌}
+use Prim.Native.Nat.{◌+◌, ◌-◌, ◌≤◌}
+use native.Mathlib.Nat.{add-zero}
+use native.Mathlib.Omega.{arith}
+use lib.ListN.{length, drop}
+use borrow.Author.Tests.{not-true, not-false}
+use Rattle.tagged.specs.Sorts.{sort_of, is_cell}
+use Rattle.tagged.specs.Fields.{further, field_by, many}
+use Rattle.netlist.specs.Form.{cell_body, cells_step}
+use Rattle.tagged.proofs.ByteLaws.{front}
+use Rattle.tagged.proofs.FieldLaws.{past-within}
+use Rattle.tagged.proofs.ListLaws.{further-zero, turn-done, turn-stop, turn-refused, turn-past}
+use borrow.Author.Rules.{rules}
+use Rattle.netlist.proofs.form.cells.Goals as goal
+
+pub loop-at-init : goal.loop-at-init
+loop-at-init c = (search rules, rw (add-zero, further-zero))
+
+pub returns-then-not-begins_cell : goal.returns-then-not-begins_cell
+unfolding cells_step
+returns-then-not-begins_cell c =
+    let args = c.args in
+    let loop = c.loop-at in
+    let loop-test = c.loop-at-test in
+    let begins-cell = c.begins_cell in
+    let if1 = c.if-not-begins_cell in
+    turn-stop is_cell (field_by cell_body) _ _ args.part.now _ loop.invariant.1 loop-test.true
+    (ap (λ x. is_cell (sort_of x)) (front args.part.now loop.at) ∙ sym begins-cell.ensures ∙ if1.true)
+
+pub overflow_add-at : goal.overflow_add-at
+overflow_add-at c =
+    let cell = c.cell in
+    let cell-arg = c.cell-arg-1 in
+    omega (arith, past-within cell_body _ _ _ _ _ cell.ensures c.in-Past.is, cell-arg.given)
+
+pub loop-at-smaller : goal.loop-at-smaller
+loop-at-smaller c =
+    let cell = c.cell in
+    let cell-arg = c.cell-arg-1 in
+    omega (arith, past-within cell_body _ _ _ _ _ cell.ensures c.in-Past.is, cell-arg.given)
+
+pub loop-at-preserved : goal.loop-at-preserved
+loop-at-preserved c =
+    let cell = c.cell in
+    let cell-arg = c.cell-arg-1 in
+    let args = c.args in
+    let loop = c.loop-at in
+    let loop-test = c.loop-at-test in
+    let begins-cell = c.begins_cell in
+    let if1 = c.if-not-begins_cell in (
+      omega (arith, past-within cell_body _ _ _ _ _ cell.ensures c.in-Past.is, cell-arg.given),
+      turn-past is_cell (field_by cell_body) _ _ args.part.now _ loop.invariant.1 loop-test.true
+          (ap (λ x. is_cell (sort_of x)) (front args.part.now loop.at) ∙ sym begins-cell.ensures ∙ if1.false) _ cell.ensures _
+          c.in-Past.is (past-within cell_body _ _ _ _ _ cell.ensures c.in-Past.is),
+    )
+
+pub returns-in-Refused : goal.returns-in-Refused
+unfolding cells_step
+returns-in-Refused c =
+    let args = c.args in
+    let loop = c.loop-at in
+    let loop-test = c.loop-at-test in
+    let begins-cell = c.begins_cell in
+    let if1 = c.if-not-begins_cell in
+    let cell = c.cell in
+    turn-refused is_cell (field_by cell_body) _ _ args.part.now _ loop.invariant.1 loop-test.true
+    (ap (λ x. is_cell (sort_of x)) (front args.part.now loop.at) ∙ sym begins-cell.ensures ∙ if1.false) _ cell.ensures _
+    c.in-Refused.is
+
+pub returns : goal.returns
+unfolding cells_step
+returns c =
+    let args = c.args in
+    let loop = c.loop-at in
+    let loop-test = c.loop-at-test in
+    turn-done is_cell (field_by cell_body) _ _ args.part.now _ loop.invariant.1 loop-test.false

@@ -1,0 +1,62 @@
+-- `netlist::form::drives_until_end` meets its contract: what is passed is fine, so the whole is the bytes passed and then the rest. Assumes nothing.
+use mathlib.Core.Path.{◌≡◌, refl}
+use Prim.Native.Nat.{◌+◌, ◌-◌, ◌≤◌}
+use native.Mathlib.Nat.{add-zero}
+use native.Mathlib.Omega.{arith}
+use lib.ListN.{length, take, drop, length-take}
+use Rattle.tagged.specs.Fields.{further, field_by, many, ended, any_sort}
+use Rattle.netlist.specs.Form.{drive_body, drives_judge}
+use Rattle.tagged.proofs.FieldLaws.{past-within, then-refused, then-past, ended-fine}
+use Rattle.tagged.proofs.ListLaws.{further-zero, turn-done, turn-refused, turn-past}
+use borrow.Author.Rules.{rules}
+use Rattle.netlist.proofs.form.drives_until_end.Goals as goal
+
+pub loop-at-init : goal.loop-at-init
+loop-at-init c = (search rules, rw (add-zero, further-zero))
+
+pub overflow_add-at : goal.overflow_add-at
+overflow_add-at c =
+    let drive = c.drive in
+    let part = c.drive-arg-1 in
+    omega (arith, past-within drive_body _ _ _ _ _ drive.ensures c.in-Past.is, part.given)
+
+pub loop-at-smaller : goal.loop-at-smaller
+loop-at-smaller c =
+    let drive = c.drive in
+    let part = c.drive-arg-1 in
+    omega (arith, past-within drive_body _ _ _ _ _ drive.ensures c.in-Past.is, part.given)
+
+pub loop-at-preserved : goal.loop-at-preserved
+loop-at-preserved c =
+    let args = c.args in
+    let loop = c.loop-at in
+    let drive = c.drive in
+    let part = c.drive-arg-1 in
+    let test = c.loop-at-test in
+    let within = past-within drive_body _ _ _ _ _ drive.ensures c.in-Past.is in (
+      omega (arith, within, part.given),
+      turn-past any_sort (field_by drive_body) _ _ args.part.now _ loop.invariant.1 test.true refl _ drive.ensures _ c.in-Past.is within,
+    )
+
+pub returns-in-Refused : goal.returns-in-Refused
+unfolding drives_judge
+returns-in-Refused c =
+    let args = c.args in
+    let loop = c.loop-at in
+    let drive = c.drive in
+    let test = c.loop-at-test in
+    then-refused (many any_sort (field_by drive_body)) ended _ _ args.part.now _
+    (turn-refused any_sort (field_by drive_body) _ _ args.part.now _ loop.invariant.1 test.true refl _ drive.ensures _ c.in-Refused.is) _ refl
+
+pub returns : goal.returns
+unfolding drives_judge
+returns c =
+    let args = c.args in
+    let l = args.part.now in
+    let loop = c.loop-at in
+    let test = c.loop-at-test in
+    let left = length l - loop.at in
+    let tail = drop loop.at l in
+    then-past (many any_sort (field_by drive_body)) ended args.base args.owner l _
+    (turn-done any_sort (field_by drive_body) _ _ l _ loop.invariant.1 test.false) loop.at refl _
+    (ended-fine (args.base + loop.at) args.owner (take left tail) (omega (arith, length-take left tail, test.false)))

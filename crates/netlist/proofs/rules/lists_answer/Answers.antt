@@ -1,0 +1,29 @@
+-- `netlist::rules::lists_answer` meets its contract: the lower of what the declarations and what the rest is refused for. Assumes nothing.
+use native.Mathlib.Omega.{arith}
+use Rattle.tagged.proofs.AllBytesLaws.{read-bytes}
+use Rattle.netlist.specs.Reading.{netlist_in}
+use Rattle.netlist.proofs.RuleParts.{payload-long, declared-placed}
+use Rattle.netlist.proofs.RuleAnswers.{lists-joined}
+use borrow.Author.Rules.{rules}
+use Rattle.netlist.proofs.rules.lists_answer.Goals as goal
+
+pub declarations_answer-answer-requires : goal.declarations_answer-answer-requires
+declarations_answer-answer-requires c =
+    let args = c.args in
+    let pre = c.requires in
+    omega (
+      arith,
+      payload-long args.file.now (read-bytes args.file.now c.shared_slice_known-1.given) pre.0 pre.1 c.from.result.now
+          c.from.ensures,
+    )
+
+pub returns : goal.returns
+returns c =
+    let args = c.args in
+    let shared-slice-known = c.shared_slice_known-1 in
+    let pre = c.requires in
+    let from = c.from in
+    let declarations-answer = c.declarations_answer-answer in
+    lists-joined 3 (netlist_in args.file.now)
+    (declared-placed args.file.now (read-bytes args.file.now shared-slice-known.given) pre.0 pre.1 from.result.now from.ensures
+    declarations-answer.ensures) c.rest_answer.ensures c.or_lower.ensures

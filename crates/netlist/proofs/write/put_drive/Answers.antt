@@ -1,0 +1,33 @@
+-- `netlist::write::put_drive` meets its contract: header, variable and operand are the field, whose length is that of its payload. Assumes nothing.
+use mathlib.Core.List.{◌∷◌}
+use native.Mathlib.Omega.{arith}
+use Rattle.tagged.specs.Bytes.{two_bytes}
+use Rattle.tagged.specs.Sorts.{tag_of}
+use Rattle.tagged.specs.declared.sorts.Sort.TheVariants as Sort
+use Rattle.tagged.proofs.WriteLaws.{wrote_then}
+use Rattle.netlist.specs.Form.{operand_bytes, drive_bytes}
+use Rattle.netlist.proofs.CellBytes.{operand-length}
+use Rattle.netlist.proofs.PutLaws.{wrote-field}
+use borrow.Author.Rules.{rules}
+use Rattle.netlist.proofs.write.put_drive.Goals as goal
+
+pub put_byte-next-requires : goal.put_byte-next-requires
+unfolding two_bytes
+put_byte-next-requires c = omega (arith, c.put_header-past.ensures.past)
+
+pub put_operand-requires : goal.put_operand-requires
+unfolding two_bytes
+put_operand-requires c =
+    let header = c.put_header-past in
+    let variable = c.put_byte-next in
+    omega (arith, header.ensures.past, variable.ensures.past)
+
+pub returns : goal.returns
+unfolding drive_bytes tag_of
+returns c =
+    let d = c.args.drive in
+    let header = c.put_header-past in
+    let variable = c.put_byte-next in
+    let operand = c.put_operand in
+    wrote-field (tag_of Sort.Drive) (d.variable ∷ operand_bytes d.operand) (omega (arith, operand-length d.operand))
+    header.ensures (wrote_then variable.ensures operand.ensures)
