@@ -6,7 +6,6 @@ use Rattle.tagged.specs.Limits.{longest_module}
 use Rattle.tagged.specs.Files.{file_answer}
 use Rattle.tagged.specs.declared.answers.Rule.TheVariants as Rule
 use Rattle.tagged.specs.declared.answers.Answer.{Answer}
-use Rattle.tagged.specs.declared.answers.Answer.TheVariants as Answer
 use Rattle.tagged.proofs.RefusalLaws.{NoneBroken, more, accepted-none}
 use Rattle.tagged.proofs.FileLaws.{accepted-parts}
 use Rattle.verilog.specs.Tree.{Module}

@@ -12,9 +12,7 @@ use Rattle.words.specs.Widths.{is_width, fits_width, index_within}
 use Rattle.tagged.specs.Fields.{Placed, unplaced, all_bytes_of}
 use Rattle.tagged.specs.Declarations.{Declaration, input, register, width_of, variable_width, register_at, declaration_bytes, value_broken}
 use Rattle.tagged.specs.declared.answers.Rule.{Rule}
-use Rattle.tagged.specs.declared.answers.Rule.TheVariants as Rule
 use Rattle.tagged.specs.declared.answers.Answer.{Answer}
-use Rattle.tagged.specs.declared.answers.Answer.TheVariants as Answer
 use Rattle.verilog.specs.Tree.{Expression, constant, variable, fixed_bit, chosen_bit, one, two, Statement, assign, assign_bit, if_else, case, Block, end, ◌then◌, Items, default, item, Module}
 use Rattle.verilog.specs.Form.{expression_bytes, statement_bytes, block_payload, process_bytes}
 use Rattle.verilog.specs.Nodes.{Node, past, expression_nodes, statement_nodes, block_nodes, items_nodes, process_nodes, declaration_nodes, module_nodes}

@@ -4,10 +4,10 @@ use mathlib.Core.List.{List, [], ◌∷◌, Memᴰ}
 use Rattle.verilog.specs.Fits.{All}
 
 module _ {A : Type 0} (P : A → Type 0) where
-  pub all-member : {l : List A} → All P l → (a : A) → Memᴰ a l → P a
+  pub all-member : (a : A) {l : List A} → All P l → Memᴰ a l → P a
   unfolding All
-  all-member h a (Memᴰ.head e) = rw e h.0
-  all-member h a (Memᴰ.tail m) = all-member h.1 a m
+  all-member a h (Memᴰ.head e) = rw e h.0
+  all-member a h (Memᴰ.tail m) = all-member a h.1 m
 
   pub member-all : (l : List A) → ((a : A) → Memᴰ a l → P a) → All P l
   unfolding All

@@ -16,9 +16,7 @@ use Rattle.tagged.specs.Stands.{Stands}
 use Rattle.tagged.specs.Declarations.{Declaration, input, register, is_register, register_at, variable_width}
 use Rattle.tagged.specs.Declarations.{value_broken, name_broken, count_broken, declaration_breaks}
 use Rattle.tagged.specs.declared.sorts.Kind.{Kind}
-use Rattle.tagged.specs.declared.sorts.Kind.TheVariants as Kind
 use Rattle.tagged.specs.declared.answers.Rule.{Rule}
-use Rattle.tagged.specs.declared.answers.Rule.TheVariants as Rule
 use Rattle.tagged.proofs.TestLaws.{or_left, or_right, or_cases, unlike, unlike-ne}
 use Rattle.tagged.proofs.DeclarationTests.{no-width, width-no, not-fits, fits_not, phrase-tested, tested-phrase}
 use Rattle.tagged.proofs.RiseLaws.{before-earlier, earlier-before, stands-in, in-stands}
@@ -154,6 +152,7 @@ module _ (test : Node → Kind → ℕ → Bool) where
       here = by-assigns (test (assigning f.number f.text)) f.assigns f.passes
 
       go : (l : List Node) → Memᴰ (assigning f.number f.text) l → some_node (λ n. is_assignment (test n) n) l ≡ true
+      go [] m = elim m [ ]
       go (n ∷ l) (Memᴰ.head e) = let h : is_assignment (test n) n ≡ true = rw (← e) here in rw h
       go (n ∷ l) (Memᴰ.tail m) = or_right (is_assignment (test n) n) (go l m)
 

@@ -10,9 +10,7 @@ use Rattle.tagged.specs.Fields.{unplaced, all_bytes_of, placed_by}
 use Rattle.tagged.specs.Refusals.{first_broken, or_else}
 use Rattle.tagged.specs.Declarations.{Declaration, declaration_bytes, declaration_breaks, declaration_broken}
 use Rattle.tagged.specs.declared.answers.Rule.{Rule}
-use Rattle.tagged.specs.declared.answers.Rule.TheVariants as Rule
 use Rattle.tagged.specs.declared.answers.Found.{Found}
-use Rattle.tagged.specs.declared.answers.Found.TheVariants as Found
 use Rattle.tagged.proofs.RefusalLaws.{nowhere-both}
 use Rattle.tagged.proofs.FoundLaws.{found-append}
 use Rattle.verilog.specs.Tree.{Module}

@@ -9,15 +9,10 @@ use Rattle.tagged.specs.Bytes.{AllBytes, four_bytes, four_of}
 use Rattle.tagged.specs.Sorts.{tag_of, on_expression, is_expression}
 use Rattle.tagged.specs.Fields.{field_bytes, open_of, on_field, field_by, then_by, ended}
 use Rattle.tagged.specs.declared.sorts.ExpressionSort.{ExpressionSort}
-use Rattle.tagged.specs.declared.sorts.ExpressionSort.TheVariants as ExpressionSort
 use Rattle.tagged.specs.declared.sorts.Sort.{Sort}
-use Rattle.tagged.specs.declared.sorts.Sort.TheVariants as Sort
 use Rattle.tagged.specs.declared.fields.Opened.{Opened}
-use Rattle.tagged.specs.declared.fields.Opened.TheVariants as Opened
 use Rattle.tagged.specs.declared.fields.Judged.{Judged}
-use Rattle.tagged.specs.declared.fields.Judged.TheVariants as Judged
 use Rattle.tagged.specs.declared.fields.Step.{Step}
-use Rattle.tagged.specs.declared.fields.Step.TheVariants as Step
 use Rattle.tagged.proofs.ByteLaws.{bytes-four, bytes_drop, four-back}
 use Rattle.tagged.proofs.ListBytes.{field-length, Stands}
 use Rattle.verilog.specs.Tree.{Expression, constant, variable, fixed_bit, chosen_bit, one, two}

@@ -8,9 +8,7 @@ use lib.ListN.{length, take, drop}
 use Rattle.tagged.specs.Bytes.{AllBytes}
 use Rattle.tagged.specs.declared.sorts.Sort.{Sort}
 use Rattle.tagged.specs.declared.fields.Judged.{Judged}
-use Rattle.tagged.specs.declared.fields.Judged.TheVariants as Judged
 use Rattle.tagged.specs.declared.fields.Step.{Step}
-use Rattle.tagged.specs.declared.fields.Step.TheVariants as Step
 use Rattle.tagged.specs.Fields.{Judge, Body, field_by, then_by, many, until_end, read_placed, unplaced}
 use Rattle.tagged.proofs.ByteLaws.{bytes_drop, bytes_take}
 use Rattle.tagged.proofs.FieldLaws.{whole_open, Passed, field-passed}

@@ -14,19 +14,12 @@ use Rattle.tagged.specs.Fields.{Judge, field_by, then_by, ended, many, until_end
 use Rattle.tagged.specs.Files.{file_answer}
 use Rattle.tagged.specs.Declarations.{Declaration, input, declaration_body, declaration_in, declaration_read, declarations_step, declarations_at, declarations_in, after_declarations}
 use Rattle.tagged.specs.declared.sorts.DeclarationSort.{DeclarationSort}
-use Rattle.tagged.specs.declared.sorts.DeclarationSort.TheVariants as DeclarationSort
 use Rattle.tagged.specs.declared.sorts.StatementSort.{StatementSort}
-use Rattle.tagged.specs.declared.sorts.StatementSort.TheVariants as StatementSort
 use Rattle.tagged.specs.declared.sorts.ExpressionSort.{ExpressionSort}
-use Rattle.tagged.specs.declared.sorts.ExpressionSort.TheVariants as ExpressionSort
 use Rattle.tagged.specs.declared.sorts.Sort.{Sort}
-use Rattle.tagged.specs.declared.sorts.Sort.TheVariants as Sort
 use Rattle.tagged.specs.declared.fields.Judged.{Judged}
-use Rattle.tagged.specs.declared.fields.Judged.TheVariants as Judged
 use Rattle.tagged.specs.declared.fields.Step.{Step}
-use Rattle.tagged.specs.declared.fields.Step.TheVariants as Step
 use Rattle.tagged.specs.declared.answers.Answer.{Answer}
-use Rattle.tagged.specs.declared.answers.Answer.TheVariants as Answer
 use Rattle.tagged.proofs.ByteLaws.{bytes_drop, four-lt}
 use Rattle.tagged.proofs.FileLaws.{file-fits}
 use Rattle.tagged.proofs.DeclarationLaws.{declaration-sort, other-sort}

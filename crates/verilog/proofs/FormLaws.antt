@@ -1,30 +1,21 @@
 -- Laws of refusal 2, in the form in which code asks them: each chain of equations ends in a definition of specs/Form.
-use mathlib.Core.Path.{◌≡◌, refl, sym, ap, subst, ◌∙◌}
-use mathlib.Core.Bool.{Bool, true, false, cond, not}
-use mathlib.Core.List.{List, [], ◌∷◌}
+use mathlib.Core.Path.{◌≡◌, refl, sym, ap, ◌∙◌}
+use mathlib.Core.Bool.{Bool, true, false, cond}
+use mathlib.Core.List.{List}
 use Prim.Native.Nat.{ℕ, zero, suc, ◌+◌, ◌-◌, ◌≤◌, ◌<◌}
 use native.Mathlib.Numerals.{sub-one}
 use native.Mathlib.Omega.{arith}
-use lib.Dec.{T, ltb}
+use lib.Dec.{ltb}
 use lib.ListN.{length, take, drop, length-drop}
 use borrow.Author.Tests.{ltb-true, ltb-false, ne_eqb}
-use mir.Val.{has_key}
-use types.Run.{OneOf, miss}
-use denote.Enum.Declared as enums
 use Rattle.tagged.specs.Sorts.{sort_of, on_expression, on_statement, is_sort}
 use Rattle.tagged.specs.Fields.{Stepper, field_by, then_by, fixed_then, ended, further, many, any_sort, until_end}
 use Rattle.tagged.specs.Declarations.{declarations_step}
 use Rattle.tagged.specs.declared.sorts.ExpressionSort.{ExpressionSort}
-use Rattle.tagged.specs.declared.sorts.ExpressionSort.TheVariants as ExpressionSort
 use Rattle.tagged.specs.declared.sorts.StatementSort.{StatementSort}
 use Rattle.tagged.specs.declared.sorts.Sort.{Sort}
-use Rattle.tagged.specs.declared.sorts.Sort.TheVariants as Sort
 use Rattle.tagged.specs.declared.fields.Judged.{Judged}
-use Rattle.tagged.specs.declared.fields.Judged.TheVariants as Judged
 use Rattle.tagged.specs.declared.fields.Step.{Step}
-use Rattle.tagged.specs.declared.fields.Step.TheVariants as Step
-use Rattle.tagged.specs.contracts.sorts.Sort as sorts
-use Rattle.tagged.specs.contracts.sorts.ExpressionSort as expression-sorts
 use Rattle.tagged.proofs.ByteLaws.{rest}
 use Rattle.tagged.proofs.SortLaws.{sort-back, is-itself}
 use Rattle.tagged.proofs.FieldLaws.{then-past, then-refused, fixed-short, fixed_then_lem, ended-fine, ended-over}
@@ -50,53 +41,39 @@ module _ (n base owner : ℕ) (l : List ℕ) where
           let long : n ≤ length l = ltb-false _ _ p in
           fixed_then_lem n ended base owner l long _ (ended-over _ _ _ (λ z. e (omega (arith, left, z))))
 
--- a match found a sort among these variants
-abbrev pub Among : List ℕ → Sort → Type 0
-Among keys s = OneOf keys (enums.tag_of sorts.the_type s)
-
--- all but an expression, or a statement
-abbrev pub but_expression : List ℕ
-but_expression = 0 ∷ 1 ∷ 2 ∷ 3 ∷ 4 ∷ 5 ∷ 7 ∷ 8 ∷ 9 ∷ 10 ∷ []
-
-abbrev pub but_statement : List ℕ
-but_statement = 0 ∷ 1 ∷ 2 ∷ 4 ∷ 5 ∷ 6 ∷ 7 ∷ 8 ∷ 9 ∷ 10 ∷ []
-
--- all but an item and a block, as a match counts the sorts
-abbrev pub but_branch : List ℕ
-but_branch = 0 ∷ 1 ∷ 2 ∷ 3 ∷ 6 ∷ 7 ∷ 8 ∷ 9 ∷ 10 ∷ []
-
-pub not-branch : {A : Type 0} (s : Sort) (item block other : A) → Among but_branch s → by_branch s item block other ≡ other
-not-branch Sort.Module item block other k = refl
-not-branch (Sort.Declaration d) item block other k = refl
-not-branch Sort.Process item block other k = refl
-not-branch (Sort.Statement s) item block other k = refl
-not-branch Sort.Item item block other k = absurd (miss but_branch 4 tt k)
-not-branch Sort.Block item block other k = absurd (miss but_branch 5 tt k)
-not-branch (Sort.Expression e) item block other k = refl
-not-branch (Sort.Cell c) item block other k = refl
-not-branch Sort.Drive item block other k = refl
-not-branch Sort.Netlist item block other k = refl
-not-branch Sort.Unknown item block other k = refl
+-- an arm that takes what the arms before it leave: each argument says of one variant that the sort is not it
+pub not-branch : {A : Type 0} (s : Sort) (item block other : A) → (s ≡ Sort.Item → ⊥) → (s ≡ Sort.Block → ⊥) → by_branch s item block other ≡ other
+not-branch Sort.Module item block other no-item no-block = refl
+not-branch (Sort.Declaration d) item block other no-item no-block = refl
+not-branch Sort.Process item block other no-item no-block = refl
+not-branch (Sort.Statement s) item block other no-item no-block = refl
+not-branch Sort.Item item block other no-item no-block = absurd (no-item refl)
+not-branch Sort.Block item block other no-item no-block = absurd (no-block refl)
+not-branch (Sort.Expression e) item block other no-item no-block = refl
+not-branch (Sort.Cell c) item block other no-item no-block = refl
+not-branch Sort.Drive item block other no-item no-block = refl
+not-branch Sort.Netlist item block other no-item no-block = refl
+not-branch Sort.Unknown item block other no-item no-block = refl
 
 -- a match that found another sort
-pub not-expression : {A : Type 0} (s : Sort) (f : ExpressionSort → A) (other : A) → Among but_expression s → other ≡ on_expression s f other
+pub not-expression : {A : Type 0} (s : Sort) (f : ExpressionSort → A) (other : A) → ((e : ExpressionSort) → s ≡ Sort.Expression e → ⊥) → other ≡ on_expression s f other
 not-expression Sort.Module f other k = refl
 not-expression (Sort.Declaration d) f other k = refl
 not-expression Sort.Process f other k = refl
 not-expression (Sort.Statement s) f other k = refl
 not-expression Sort.Item f other k = refl
 not-expression Sort.Block f other k = refl
-not-expression (Sort.Expression e) f other k = absurd (miss but_expression 6 tt k)
+not-expression (Sort.Expression e) f other k = absurd (k e refl)
 not-expression (Sort.Cell c) f other k = refl
 not-expression Sort.Drive f other k = refl
 not-expression Sort.Netlist f other k = refl
 not-expression Sort.Unknown f other k = refl
 
-pub not-statement : {A : Type 0} (s : Sort) (f : StatementSort → A) (other : A) → Among but_statement s → other ≡ on_statement s f other
+pub not-statement : {A : Type 0} (s : Sort) (f : StatementSort → A) (other : A) → ((t : StatementSort) → s ≡ Sort.Statement t → ⊥) → other ≡ on_statement s f other
 not-statement Sort.Module f other k = refl
 not-statement (Sort.Declaration d) f other k = refl
 not-statement Sort.Process f other k = refl
-not-statement (Sort.Statement s) f other k = absurd (miss but_statement 3 tt k)
+not-statement (Sort.Statement s) f other k = absurd (k s refl)
 not-statement Sort.Item f other k = refl
 not-statement Sort.Block f other k = refl
 not-statement (Sort.Expression e) f other k = refl
@@ -107,22 +84,15 @@ not-statement Sort.Unknown f other k = refl
 
 -- a test that names one sort, of another: by itself, or as a match counts the sorts
 module _ (a s : Sort) where
-  is-other : (s ≡ a → ⊥) → is_sort a s ≡ false
-  is-other e = ne_eqb _ _ (λ z. e (sym (sort-back s) ∙ ap sort_of (sym z) ∙ sort-back a))
-
-  pub is-missed : (keys : List ℕ) → T (not (has_key keys (enums.tag_of sorts.the_type a))) → Among keys s → is_sort a s ≡ false
-  is-missed keys none k = is-other (λ e. miss keys (enums.tag_of sorts.the_type a) none (subst (Among keys) e k))
+  pub is-missed : (s ≡ a → ⊥) → is_sort a s ≡ false
+  is-missed e = ne_eqb _ _ (λ z. e (sym (sort-back s) ∙ ap sort_of (sym z) ∙ sort-back a))
 
   module _ (w : Judged) (x : ℕ) where
     same-sort : s ≡ a → w ≡ cond (is_sort a s) w (Judged.Refused x)
     same-sort e = rw (e, is-itself a)
 
     wrong-sort : (s ≡ a → ⊥) → Judged.Refused x ≡ cond (is_sort a s) w (Judged.Refused x)
-    wrong-sort e = rw (is-other e)
-
-    wrong-match : (keys : List ℕ) → T (not (has_key keys (enums.tag_of sorts.the_type a))) → Among keys s →
-        Judged.Refused x ≡ cond (is_sort a s) w (Judged.Refused x)
-    wrong-match keys none k = rw (is-missed keys none k)
+    wrong-sort e = rw (is-missed e)
 
 -- each payload, by the levels that are left and by its sort
 pub expression-deep : (d : ℕ) → d ≡ 0 → (at : ℕ) (s : Sort) (l : List ℕ) → Judged.Refused at ≡ expression_body d at s l
@@ -135,7 +105,7 @@ expression-step zero h = absurd (h refl)
 expression-step (suc d) h = rw sub-one
 
 module _ (d : ℕ) (h : d ≡ 0 → ⊥) (at : ℕ) (s : Sort) (l : List ℕ) where
-  pub expression-other : Among but_expression s → Judged.Refused at ≡ expression_body d at s l
+  pub expression-other : ((e : ExpressionSort) → s ≡ Sort.Expression e → ⊥) → Judged.Refused at ≡ expression_body d at s l
   expression-other k = rw (expression-step d h) (not-expression s _ _ k)
 
   pub expression-of : (e : ExpressionSort) → s ≡ Sort.Expression e → (w : Judged) →
@@ -143,20 +113,15 @@ module _ (d : ℕ) (h : d ≡ 0 → ⊥) (at : ℕ) (s : Sort) (l : List ℕ) wh
   expression-of e q w p = rw (expression-step d h, q) p
 
 -- an item's constant: another sort of expression is wrong too
-abbrev pub but_constant : List ℕ
-but_constant = 1 ∷ 2 ∷ 3 ∷ 4 ∷ 5 ∷ []
-
 module _ (at : ℕ) (e : ExpressionSort) (l : List ℕ) where
   pub constant-fits : e ≡ ExpressionSort.Constant → (w : Judged) → w ≡ fixed_then 5 ended (at + 3) at l → w ≡ constant_of at (Sort.Expression e) l
   constant-fits q w p = p ∙ same-sort (Sort.Expression ExpressionSort.Constant) (Sort.Expression e) _ at (ap Sort.Expression q)
 
-  pub constant-wrong : OneOf but_constant (enums.tag_of expression-sorts.the_type e) → Judged.Refused at ≡ constant_of at (Sort.Expression e) l
+  pub constant-wrong : (e ≡ ExpressionSort.Constant → ⊥) → Judged.Refused at ≡ constant_of at (Sort.Expression e) l
   constant-wrong k = wrong-sort (Sort.Expression ExpressionSort.Constant) (Sort.Expression e) _ at other
     where
       other : Sort.Expression e ≡ Sort.Expression ExpressionSort.Constant → ⊥
-      other z =
-          let same : e ≡ ExpressionSort.Constant = cc in
-          miss but_constant 0 tt (subst (λ x. OneOf but_constant (enums.tag_of expression-sorts.the_type x)) same k)
+      other z = let same : e ≡ ExpressionSort.Constant = cc in k same
 
 pub constant-deep : (d : ℕ) → d ≡ 0 → (at : ℕ) (s : Sort) (l : List ℕ) → Judged.Refused at ≡ constant_body d at s l
 unfolding constant_body
@@ -168,8 +133,8 @@ constant-step zero h = absurd (h refl)
 constant-step (suc d) h = refl
 
 module _ (d : ℕ) (h : d ≡ 0 → ⊥) (at : ℕ) (s : Sort) (l : List ℕ) where
-  pub constant-other : Among but_expression s → Judged.Refused at ≡ constant_body d at s l
-  constant-other k = rw (constant-step d h) (wrong-match (Sort.Expression ExpressionSort.Constant) s _ at but_expression tt k)
+  pub constant-other : ((e : ExpressionSort) → s ≡ Sort.Expression e → ⊥) → Judged.Refused at ≡ constant_body d at s l
+  constant-other k = rw (constant-step d h) (wrong-sort (Sort.Expression ExpressionSort.Constant) s _ at (k ExpressionSort.Constant))
 
   pub constant-of : (e : ExpressionSort) → s ≡ Sort.Expression e → (w : Judged) → w ≡ constant_of at (Sort.Expression e) l → w ≡ constant_body d at s l
   constant-of e q w p = rw (constant-step d h, q) p
@@ -184,7 +149,7 @@ statement-step zero h = absurd (h refl)
 statement-step (suc d) h = rw sub-one
 
 module _ (d : ℕ) (h : d ≡ 0 → ⊥) (at : ℕ) (s : Sort) (l : List ℕ) where
-  pub statement-other : Among but_statement s → Judged.Refused at ≡ statement_body d at s l
+  pub statement-other : ((t : StatementSort) → s ≡ Sort.Statement t → ⊥) → Judged.Refused at ≡ statement_body d at s l
   statement-other k = rw (statement-step d h) (not-statement s _ _ k)
 
   pub statement-of : (e : StatementSort) → s ≡ Sort.Statement e → (w : Judged) →
@@ -200,12 +165,9 @@ unfolding block_body
 block-step zero h = absurd (h refl)
 block-step (suc d) h = rw sub-one
 
-abbrev pub but_block : List ℕ
-but_block = 0 ∷ 1 ∷ 2 ∷ 3 ∷ 4 ∷ 6 ∷ 7 ∷ 8 ∷ 9 ∷ 10 ∷ []
-
 module _ (d : ℕ) (h : d ≡ 0 → ⊥) (at : ℕ) (s : Sort) (l : List ℕ) where
-  pub block-other : Among but_block s → Judged.Refused at ≡ block_body d at s l
-  block-other k = rw (block-step d h) (wrong-match Sort.Block s _ at but_block tt k)
+  pub block-other : (s ≡ Sort.Block → ⊥) → Judged.Refused at ≡ block_body d at s l
+  block-other k = rw (block-step d h) (wrong-sort Sort.Block s _ at k)
 
   pub block-of : s ≡ Sort.Block → (w : Judged) → w ≡ until_end (field_by (statement_body (d - 1))) (at + 3) at l → w ≡ block_body d at s l
   block-of q w p = p ∙ rw (block-step d h) (same-sort Sort.Block s _ at q)
@@ -219,27 +181,18 @@ unfolding item_body
 item-step zero h = absurd (h refl)
 item-step (suc d) h = rw sub-one
 
-abbrev pub but_item : List ℕ
-but_item = 0 ∷ 1 ∷ 2 ∷ 3 ∷ 5 ∷ 6 ∷ 7 ∷ 8 ∷ 9 ∷ 10 ∷ []
-
-pub not-item : (s : Sort) → Among but_item s → is_sort Sort.Item s ≡ false
-not-item s k = is-missed Sort.Item s but_item tt k
+pub not-item : (s : Sort) → (s ≡ Sort.Item → ⊥) → is_sort Sort.Item s ≡ false
+not-item s k = is-missed Sort.Item s k
 
 module _ (d : ℕ) (h : d ≡ 0 → ⊥) (at : ℕ) (s : Sort) (l : List ℕ) where
-  pub item-other : Among but_item s → Judged.Refused at ≡ item_body d at s l
-  item-other k = rw (item-step d h) (wrong-match Sort.Item s _ at but_item tt k)
+  pub item-other : (s ≡ Sort.Item → ⊥) → Judged.Refused at ≡ item_body d at s l
+  item-other k = rw (item-step d h) (wrong-sort Sort.Item s _ at k)
 
   pub item-of : s ≡ Sort.Item → (w : Judged) →
       w ≡ then_by (field_by (constant_body (d - 1))) (then_by (field_by (block_body (d - 1))) ended) (at + 3) at l → w ≡ item_body d at s l
   item-of q w p = p ∙ rw (item-step d h) (same-sort Sort.Item s _ at q)
 
 -- the same of a process and of a module, whose bodies do not recurse
-abbrev pub but_process : List ℕ
-but_process = 0 ∷ 1 ∷ 3 ∷ 4 ∷ 5 ∷ 6 ∷ 7 ∷ 8 ∷ 9 ∷ 10 ∷ []
-
-abbrev pub but_module : List ℕ
-but_module = 1 ∷ 2 ∷ 3 ∷ 4 ∷ 5 ∷ 6 ∷ 7 ∷ 8 ∷ 9 ∷ 10 ∷ []
-
 pub process-deep : (d : ℕ) → d ≡ 0 → (at : ℕ) (s : Sort) (l : List ℕ) → Judged.Refused at ≡ process_body d at s l
 process-deep d e at s l = rw e
 
@@ -255,14 +208,14 @@ module-step zero h = absurd (h refl)
 module-step (suc d) h = rw sub-one
 
 module _ (d : ℕ) (h : d ≡ 0 → ⊥) (at : ℕ) (s : Sort) (l : List ℕ) where
-  pub process-other : Among but_process s → Judged.Refused at ≡ process_body d at s l
-  process-other k = rw (process-step d h) (wrong-match Sort.Process s _ at but_process tt k)
+  pub process-other : (s ≡ Sort.Process → ⊥) → Judged.Refused at ≡ process_body d at s l
+  process-other k = rw (process-step d h) (wrong-sort Sort.Process s _ at k)
 
   pub process-of : s ≡ Sort.Process → (w : Judged) → w ≡ until_end (field_by (statement_body (d - 1))) (at + 3) at l → w ≡ process_body d at s l
   process-of q w p = p ∙ rw (process-step d h) (same-sort Sort.Process s _ at q)
 
-  pub module-other : Among but_module s → Judged.Refused at ≡ module_body d at s l
-  module-other k = rw (module-step d h) (wrong-match Sort.Module s _ at but_module tt k)
+  pub module-other : (s ≡ Sort.Module → ⊥) → Judged.Refused at ≡ module_body d at s l
+  module-other k = rw (module-step d h) (wrong-sort Sort.Module s _ at k)
 
   pub module-of : s ≡ Sort.Module → (w : Judged) → w ≡ then_by declarations_step (until_end (field_by (process_body (d - 1)))) (at + 3) at l → w ≡ module_body d at s l
   module-of q w p = p ∙ rw (module-step d h) (same-sort Sort.Module s _ at q)

@@ -10,9 +10,7 @@ use Rattle.tagged.specs.Bytes.{AllBytes}
 use Rattle.tagged.specs.Sorts.{tag_of}
 use Rattle.tagged.specs.declared.sorts.Sort.{Sort}
 use Rattle.tagged.specs.declared.fields.Judged.{Judged}
-use Rattle.tagged.specs.declared.fields.Judged.TheVariants as Judged
 use Rattle.tagged.specs.declared.fields.Step.{Step}
-use Rattle.tagged.specs.declared.fields.Step.TheVariants as Step
 use Rattle.tagged.specs.Fields.{field_bytes, Judge, Body, field_by, then_by, ended}
 use Rattle.tagged.proofs.ByteLaws.{bytes_drop, bytes_take}
 use Rattle.tagged.proofs.SortLaws.{sort-back, tag_back}

@@ -9,9 +9,7 @@ use lib.Seq.{take_all}
 use Rattle.tagged.specs.Bytes.{AllBytes}
 use Rattle.tagged.specs.declared.sorts.Sort.{Sort}
 use Rattle.tagged.specs.declared.fields.Judged.{Judged}
-use Rattle.tagged.specs.declared.fields.Judged.TheVariants as Judged
 use Rattle.tagged.specs.declared.fields.Step.{Step}
-use Rattle.tagged.specs.declared.fields.Step.TheVariants as Step
 use Rattle.tagged.specs.Fields.{all_bytes_of, Body, field_by, many, until_end}
 use Rattle.tagged.proofs.RunLaws.{Known, until-run, list_in, run-listed}
 use Rattle.tagged.proofs.ListBytes.{Run, many-run}

@@ -10,12 +10,10 @@ use Rattle.tagged.specs.Sorts.{on_expression}
 use Rattle.tagged.specs.Fields.{open_of}
 use Rattle.tagged.specs.declared.sorts.ExpressionSort.{ExpressionSort}
 use Rattle.tagged.specs.declared.sorts.Sort.{Sort}
-use Rattle.tagged.specs.declared.sorts.Sort.TheVariants as Sort
 use Rattle.tagged.specs.declared.fields.Opened.{Opened}
-use Rattle.tagged.specs.declared.fields.Opened.TheVariants as Opened
 use Rattle.verilog.specs.Tree.{Expression}
 use Rattle.verilog.specs.Reading.{no_expression, front_by, expression_with, expression_in}
-use Rattle.verilog.proofs.FormLaws.{Among, but_expression, not-expression}
+use Rattle.verilog.proofs.FormLaws.{not-expression}
 
 -- the field at the front, its payload as the code has it
 module _ (l : List ℕ) (o : Opened) (opened : o ≡ open_of 0 0 l) {A : Type 0} (read : Sort → List ℕ → A) (none : A) where
@@ -46,7 +44,7 @@ module _ (d : ℕ) (h : d ≡ 0 → ⊥) (l : List ℕ) (o : Opened) (opened : o
       expression_with (expression_in (d - 1)) e (take (n + 3 - 3) (drop 3 l)) ≡ expression_in d l
   read-expression s n q e is = rw (← one-level d h l, ← opened, q, is, add-sub_cancel n 3)
 
-  pub read-other : (s : Sort) (n : ℕ) → o ≡ Opened.Field s n → Among but_expression s → no_expression ≡ expression_in d l
+  pub read-other : (s : Sort) (n : ℕ) → o ≡ Opened.Field s n → ((e : ExpressionSort) → s ≡ Sort.Expression e → ⊥) → no_expression ≡ expression_in d l
   read-other s n q k = rw (← one-level d h l, ← opened, q) (not-expression s _ _ k)
 
   pub read_none : (x : ℕ) → o ≡ Opened.Refused x → no_expression ≡ expression_in d l

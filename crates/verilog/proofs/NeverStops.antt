@@ -20,7 +20,6 @@ use Rattle.tagged.specs.Rows.{all_fit}
 use Rattle.tagged.specs.Cycles.{with_inputs, inputs_fit}
 use Rattle.tagged.proofs.RowLaws.{fits-length}
 use Rattle.tagged.specs.declared.sorts.Kind.{Kind}
-use Rattle.tagged.specs.declared.sorts.Kind.TheVariants as Kind
 use Rattle.verilog.specs.Tree.{Expression, Statement, Block, Items, Module}
 use Rattle.verilog.specs.Rules.{expression_width}
 use Rattle.verilog.specs.Cycle.{State, evaluate, held, changed, execute, execute_block, execute_items, execute_all, delays_any, settled, module_cycle}
@@ -200,7 +199,7 @@ unfolding execute_all quiet_all
 typed-all-run {ds} {s} none-typed f = record { leaves = record { left = s; runs = refl; fits = f; copied = copied-same }; quietly = refl }
 typed-all-run {ds} {s} (more-typed tb tl) f =
     let p = typed-block-runs tb f in
-    let q = typed-all-run tl p.leaves.fits in
+    let q = typed-all-run {s = p.leaves.left} tl p.leaves.fits in
     record {
       leaves = record {
         left = q.leaves.left;

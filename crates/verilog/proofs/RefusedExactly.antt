@@ -12,13 +12,9 @@ use Rattle.tagged.specs.Refusals.{after_form, after_answer}
 use Rattle.tagged.specs.Answers.{number_of}
 use Rattle.tagged.specs.Stands.{Stands}
 use Rattle.tagged.specs.declared.answers.Rule.{Rule}
-use Rattle.tagged.specs.declared.answers.Rule.TheVariants as Rule
 use Rattle.tagged.specs.declared.answers.Answer.{Answer}
-use Rattle.tagged.specs.declared.answers.Answer.TheVariants as Answer
 use Rattle.tagged.specs.declared.answers.Found.{Found}
-use Rattle.tagged.specs.declared.answers.Found.TheVariants as Found
 use Rattle.tagged.specs.declared.fields.Step.{Step}
-use Rattle.tagged.specs.declared.fields.Step.TheVariants as Step
 use Rattle.tagged.proofs.RefusalLaws.{nowhere-passes, passes-nowhere, FirstBreak, at_first, first-at}
 use Rattle.tagged.proofs.RefusalLaws.{Rising, order-rising, accepted-none, none-accepted, none_each, each_none, refused-first, first-refused, first-lower, lower-first, first-broken}
 use Rattle.tagged.proofs.FileLaws.{accepted-parts}

@@ -10,18 +10,13 @@ use Rattle.tagged.specs.Bytes.{AllBytes, four_of}
 use Rattle.tagged.specs.Sorts.{tag_of, is_expression, is_statement, is_sort}
 use Rattle.tagged.specs.Fields.{Judge, field_bytes, open_of, on_field, field_by, then_by, fixed_then, ended, many, passed_bytes, until_end, read_placed, unplaced}
 use Rattle.tagged.specs.declared.sorts.StatementSort.{StatementSort}
-use Rattle.tagged.specs.declared.sorts.StatementSort.TheVariants as StatementSort
 use Rattle.tagged.specs.declared.sorts.ExpressionSort.TheVariants as ExpressionSort
 use Rattle.tagged.specs.declared.sorts.Sort.{Sort}
-use Rattle.tagged.specs.declared.sorts.Sort.TheVariants as Sort
 use Rattle.tagged.specs.declared.fields.Opened.{Opened}
-use Rattle.tagged.specs.declared.fields.Opened.TheVariants as Opened
 use Rattle.tagged.specs.declared.fields.Judged.{Judged}
-use Rattle.tagged.specs.declared.fields.Judged.TheVariants as Judged
 use Rattle.tagged.specs.declared.fields.Step.{Step}
-use Rattle.tagged.specs.declared.fields.Step.TheVariants as Step
 use Rattle.tagged.proofs.ByteLaws.{bytes_drop}
-use Rattle.verilog.specs.Tree.{Expression, constant, Statement, Block, end}
+use Rattle.verilog.specs.Tree.{Expression, constant, Block, end}
 use Rattle.verilog.specs.Form.{expression_bytes, statement_field, statement_bytes, block_payload, items_bytes, block_bytes, expression_body, constant_body, statement_parts, statement_body, block_body, item_body}
 use Rattle.verilog.specs.Reading.{no_expression, front_by, after_front, block_front, expression_in, items_from, after_items, statement_with, no_statement, statement_in, block_in, item_in}
 use Rattle.tagged.proofs.JudgeLaws.{then-tells, fixed-tells, fixed-only}

@@ -7,7 +7,6 @@ use Rattle.tagged.specs.Sorts.{tag_of}
 use Rattle.tagged.specs.Fields.{field_bytes, all_bytes_of}
 use Rattle.tagged.specs.declared.sorts.ExpressionSort.TheVariants as ExpressionSort
 use Rattle.tagged.specs.declared.sorts.Sort.{Sort}
-use Rattle.tagged.specs.declared.sorts.Sort.TheVariants as Sort
 use Rattle.verilog.specs.Tree.{Statement, Block, end, ◌then◌, Items, default, item}
 use Rattle.verilog.specs.Form.{expression_field, statement_bytes, block_payload, items_bytes, block_bytes}
 use Rattle.verilog.specs.Reading.{block_from, ReadItem, items_from}

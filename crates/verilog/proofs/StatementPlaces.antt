@@ -6,12 +6,9 @@ use native.Mathlib.Omega.{arith}
 use Rattle.tagged.specs.Sorts.{is_sort}
 use Rattle.tagged.specs.Fields.{Judge, Stepper, field_by, then_by, fixed_then, ended, many}
 use Rattle.tagged.specs.declared.sorts.StatementSort.{StatementSort}
-use Rattle.tagged.specs.declared.sorts.StatementSort.TheVariants as StatementSort
 use Rattle.tagged.specs.declared.sorts.ExpressionSort.TheVariants as ExpressionSort
 use Rattle.tagged.specs.declared.sorts.Sort.{Sort}
-use Rattle.tagged.specs.declared.sorts.Sort.TheVariants as Sort
 use Rattle.tagged.specs.declared.fields.Judged.{Judged}
-use Rattle.tagged.specs.declared.fields.Judged.TheVariants as Judged
 use Rattle.verilog.specs.Form.{expression_body, constant_body, statement_parts, statement_body, block_body, item_body}
 use Rattle.tagged.proofs.AnyPlace.{AnywhereBody, AnywhereJudge, AnywhereStep, field-anywhere, then-anywhere, fixed-anywhere, ended-anywhere, many-anywhere, until-anywhere}
 use Rattle.tagged.proofs.JudgeLaws.{sort-fine}

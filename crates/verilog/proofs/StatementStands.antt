@@ -9,16 +9,12 @@ use Rattle.tagged.specs.Bytes.{four_bytes, four_of}
 use Rattle.tagged.specs.Sorts.{sort_of, tag_of, is_statement, is_sort}
 use Rattle.tagged.specs.Fields.{field_bytes, all_bytes_of, field_by, then_by, ended, many, passed_bytes, until_end, read_placed, unplaced}
 use Rattle.tagged.specs.declared.sorts.StatementSort.{StatementSort}
-use Rattle.tagged.specs.declared.sorts.StatementSort.TheVariants as StatementSort
 use Rattle.tagged.specs.declared.sorts.ExpressionSort.TheVariants as ExpressionSort
 use Rattle.tagged.specs.declared.sorts.Sort.{Sort}
-use Rattle.tagged.specs.declared.sorts.Sort.TheVariants as Sort
 use Rattle.tagged.specs.declared.fields.Judged.{Judged}
-use Rattle.tagged.specs.declared.fields.Judged.TheVariants as Judged
 use Rattle.tagged.specs.declared.fields.Step.{Step}
-use Rattle.tagged.specs.declared.fields.Step.TheVariants as Step
 use Rattle.tagged.proofs.ListBytes.{Stops, Stands, Each, none, more, list-many}
-use Rattle.verilog.specs.Tree.{Expression, constant, Statement, assign, assign_bit, if_else, case, Block, end, ◌then◌, Items, default, item}
+use Rattle.verilog.specs.Tree.{constant, Statement, assign, assign_bit, if_else, case, Block, end, ◌then◌, Items, default, item}
 use Rattle.verilog.specs.Form.{expression_bytes, statement_field, statement_bytes, block_payload, items_bytes, block_bytes, expression_body, constant_body, statement_body, block_body, item_body}
 use Rattle.verilog.specs.Reading.{no_expression, front_by, after_front, block_front, expression_in, block_from, ReadItem, items_from, after_items, no_statement, statement_in, block_in, item_in}
 use Rattle.verilog.specs.Fits.{FitsFour, longest_field, FitsStatement, FitsBlock, FitsItems, statement_depth, statements_depth, items_depth}

@@ -9,14 +9,10 @@ use Rattle.tagged.specs.Sorts.{tag_of}
 use Rattle.tagged.specs.Fields.{field_bytes, all_bytes_of}
 use Rattle.tagged.specs.Declarations.{Declaration, input, register, declaration_bytes}
 use Rattle.tagged.specs.declared.sorts.DeclarationSort.{DeclarationSort}
-use Rattle.tagged.specs.declared.sorts.DeclarationSort.TheVariants as DeclarationSort
 use Rattle.tagged.specs.declared.sorts.Kind.TheVariants as Kind
 use Rattle.tagged.specs.declared.sorts.StatementSort.{StatementSort}
-use Rattle.tagged.specs.declared.sorts.StatementSort.TheVariants as StatementSort
 use Rattle.tagged.specs.declared.sorts.ExpressionSort.{ExpressionSort}
-use Rattle.tagged.specs.declared.sorts.ExpressionSort.TheVariants as ExpressionSort
 use Rattle.tagged.specs.declared.sorts.Sort.{Sort}
-use Rattle.tagged.specs.declared.sorts.Sort.TheVariants as Sort
 use Rattle.tagged.proofs.AllBytesLaws.{bytes-none, bytes-cons, bytes-append, four_bytes_lem, field-bytes, all-bytes}
 use Rattle.verilog.specs.Tree.{Expression, constant, variable, fixed_bit, chosen_bit, one, two, Statement, assign, assign_bit, if_else, case, Block, end, ◌then◌, Items, default, item, Module}
 use Rattle.verilog.specs.Form.{expression_bytes, statement_bytes, block_payload, items_bytes, process_bytes, module_payload, module_bytes}
@@ -137,5 +133,5 @@ unfolding module_bytes module_payload
 written-bytes m fits =
     field-bytes (tag_of Sort.Module) (module_payload m) module-tag-byte
     (bytes-append (all_bytes_of declaration_bytes m.declarations) (all_bytes_of process_bytes m.processes)
-    (all-bytes declaration_bytes m.declarations (λ d i. declaration-bytes d (all-member FitsDeclaration fits.declarations d i)))
-    (all-bytes process_bytes m.processes (λ b i. process-bytes b (all-member FitsBlock fits.processes b i))))
+    (all-bytes declaration_bytes m.declarations (λ d i. declaration-bytes d (all-member FitsDeclaration d fits.declarations i)))
+    (all-bytes process_bytes m.processes (λ b i. process-bytes b (all-member FitsBlock b fits.processes i))))

@@ -10,9 +10,7 @@ use Rattle.tagged.specs.Sorts.{tag_of}
 use Rattle.tagged.specs.Fields.{field_bytes, open_of, fields_at}
 use Rattle.tagged.specs.declared.sorts.ExpressionSort.TheVariants as ExpressionSort
 use Rattle.tagged.specs.declared.sorts.Sort.{Sort}
-use Rattle.tagged.specs.declared.sorts.Sort.TheVariants as Sort
 use Rattle.tagged.specs.declared.fields.Opened.{Opened}
-use Rattle.tagged.specs.declared.fields.Opened.TheVariants as Opened
 use Rattle.tagged.proofs.SortLaws.{sort-back}
 use Rattle.tagged.proofs.FieldLaws.{whole_open}
 use Rattle.tagged.proofs.ListBytes.{field-whole, field-payload, field-after}

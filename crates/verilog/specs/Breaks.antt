@@ -7,9 +7,7 @@ use Rattle.tagged.specs.Stands.{Stands}
 use Rattle.tagged.specs.Declarations.{Declaration, input, variable_width}
 use Rattle.tagged.specs.DeclarationPhrases.{NoWidth, DeclarationPhrase}
 use Rattle.tagged.specs.declared.sorts.Kind.{Kind}
-use Rattle.tagged.specs.declared.sorts.Kind.TheVariants as Kind
 use Rattle.tagged.specs.declared.answers.Rule.{Rule}
-use Rattle.tagged.specs.declared.answers.Rule.TheVariants as Rule
 use Rattle.verilog.specs.Tree.{Expression, constant, variable, fixed_bit, chosen_bit, two, Statement, assign, assign_bit, if_else, Block, Module}
 use Rattle.verilog.specs.Nodes.{What, declaration, process, expression, statement, item_of, Node, module_nodes}
 use Rattle.verilog.specs.Rules.{expression_width, declarations_of, count_processes}

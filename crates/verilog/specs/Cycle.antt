@@ -6,7 +6,6 @@ use Rattle.words.specs.Values.{Value, Outcome, got, ◌>>=◌, provided}
 use Rattle.tagged.specs.Choice.{choose}
 use Rattle.tagged.specs.Declarations.{Declaration, variable_width, register_at}
 use Rattle.tagged.specs.declared.sorts.Kind.{Kind}
-use Rattle.tagged.specs.declared.sorts.Kind.TheVariants as Kind
 use Rattle.verilog.specs.Tree.{Expression, constant, variable, fixed_bit, chosen_bit, one, two, Statement, assign, assign_bit, if_else, case, Block, end, ◌then◌, Items, default, item, Module}
 
 -- each variable has a current value, each register also a pending one

@@ -6,13 +6,9 @@ use Rattle.tagged.specs.Sorts.{tag_of, on_statement, on_expression, is_sort}
 use Rattle.tagged.specs.Fields.{Judge, Stepper, Body, field_bytes, all_bytes_of, field_by, then_by, fixed_then, ended, many, until_end}
 use Rattle.tagged.specs.Declarations.{declaration_bytes, declarations_step}
 use Rattle.tagged.specs.declared.sorts.StatementSort.{StatementSort}
-use Rattle.tagged.specs.declared.sorts.StatementSort.TheVariants as StatementSort
 use Rattle.tagged.specs.declared.sorts.ExpressionSort.{ExpressionSort}
-use Rattle.tagged.specs.declared.sorts.ExpressionSort.TheVariants as ExpressionSort
 use Rattle.tagged.specs.declared.sorts.Sort.{Sort}
-use Rattle.tagged.specs.declared.sorts.Sort.TheVariants as Sort
 use Rattle.tagged.specs.declared.fields.Judged.{Judged}
-use Rattle.tagged.specs.declared.fields.Judged.TheVariants as Judged
 use Rattle.tagged.specs.declared.fields.Step.{Step}
 use Rattle.verilog.specs.Tree.{Expression, constant, variable, fixed_bit, chosen_bit, one, two, Statement, assign, assign_bit, if_else, case, Block, end, ◌then◌, Items, default, item, Module}
 

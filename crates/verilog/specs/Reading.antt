@@ -6,11 +6,8 @@ use Rattle.tagged.specs.Sorts.{on_statement, on_expression, is_statement, is_sor
 use Rattle.tagged.specs.Fields.{open_of, on_field, field_by, many, passed_bytes, read_placed, unplaced}
 use Rattle.tagged.specs.Declarations.{declarations_in, after_declarations}
 use Rattle.tagged.specs.declared.sorts.StatementSort.{StatementSort}
-use Rattle.tagged.specs.declared.sorts.StatementSort.TheVariants as StatementSort
 use Rattle.tagged.specs.declared.sorts.ExpressionSort.{ExpressionSort}
-use Rattle.tagged.specs.declared.sorts.ExpressionSort.TheVariants as ExpressionSort
 use Rattle.tagged.specs.declared.sorts.Sort.{Sort}
-use Rattle.tagged.specs.declared.sorts.Sort.TheVariants as Sort
 use Rattle.verilog.specs.Form.{item_body}
 use Rattle.verilog.specs.Tree.{Expression, constant, variable, fixed_bit, chosen_bit, one, two, Statement, assign, assign_bit, if_else, case, Block, end, ◌then◌, Items, default, item, Module}
 

@@ -24,7 +24,7 @@ fn fixed_only(part: &[u8], fixed: usize, base: usize, owner: usize) -> Judged
 }
 
 // One expression at the front of a part.
-#[cycle(expression_expression_body_expression_parts_fixed_expression_last_expression_two_expressions)]
+#[cycle(expressions)]
 fn expression(part: &[u8], base: usize, owner: usize, depth: usize) -> Step
     requires { base + length part.now ≤ 2 ^ 40 }
     ensures { result ≡ field_by (expression_body depth) base owner part.now }
@@ -39,7 +39,7 @@ fn expression(part: &[u8], base: usize, owner: usize, depth: usize) -> Step
 }
 
 // An expression's payload: another sort of field is a wrong tag.
-#[cycle(expression_expression_body_expression_parts_fixed_expression_last_expression_two_expressions)]
+#[cycle(expressions)]
 fn expression_body(sort: Sort, payload: &[u8], at: usize, depth: usize) -> Judged
     requires { at + 3 + length payload.now ≤ 2 ^ 40 }
     ensures { result ≡ expression_body depth at sort payload.now }
@@ -54,7 +54,7 @@ fn expression_body(sort: Sort, payload: &[u8], at: usize, depth: usize) -> Judge
 }
 
 // What an expression holds, by its sort.
-#[cycle(expression_expression_body_expression_parts_fixed_expression_last_expression_two_expressions)]
+#[cycle(expressions)]
 fn expression_parts(
     sort: ExpressionSort,
     part: &[u8],
@@ -76,7 +76,7 @@ fn expression_parts(
 }
 
 // So many fixed bytes, an expression, and nothing else.
-#[cycle(expression_expression_body_expression_parts_fixed_expression_last_expression_two_expressions)]
+#[cycle(expressions)]
 fn fixed_expression(part: &[u8], fixed: usize, base: usize, owner: usize, depth: usize) -> Judged
     requires { base + length part.now ≤ 2 ^ 40 }
     ensures { result ≡ fixed_then fixed (then_by (field_by (expression_body depth)) ended) base owner part.now }
@@ -89,7 +89,7 @@ fn fixed_expression(part: &[u8], fixed: usize, base: usize, owner: usize, depth:
 }
 
 // Two expressions, and nothing else.
-#[cycle(expression_expression_body_expression_parts_fixed_expression_last_expression_two_expressions)]
+#[cycle(expressions)]
 fn two_expressions(part: &[u8], base: usize, owner: usize, depth: usize) -> Judged
     requires { base + length part.now ≤ 2 ^ 40 }
     ensures { result ≡ then_by (field_by (expression_body depth)) (then_by (field_by (expression_body depth)) ended) base owner part.now }
@@ -101,7 +101,7 @@ fn two_expressions(part: &[u8], base: usize, owner: usize, depth: usize) -> Judg
 }
 
 // One expression, and nothing else.
-#[cycle(expression_expression_body_expression_parts_fixed_expression_last_expression_two_expressions)]
+#[cycle(expressions)]
 fn last_expression(part: &[u8], base: usize, owner: usize, depth: usize) -> Judged
     requires { base + length part.now ≤ 2 ^ 40 }
     ensures { result ≡ then_by (field_by (expression_body depth)) ended base owner part.now }
@@ -152,7 +152,7 @@ fn constant_parts(sort: ExpressionSort, payload: &[u8], at: usize) -> Judged
 }
 
 // One statement at the front of a part.
-#[cycle(block_block_body_case_items_case_parts_if_parts_item_item_body_item_parts_items_last_block_statement_statement_body_statement_parts_statements_two_blocks)]
+#[cycle(blocks)]
 fn statement(part: &[u8], base: usize, owner: usize, depth: usize) -> Step
     requires { base + length part.now ≤ 2 ^ 40 }
     ensures { result ≡ field_by (statement_body depth) base owner part.now }
@@ -167,7 +167,7 @@ fn statement(part: &[u8], base: usize, owner: usize, depth: usize) -> Step
 }
 
 // A statement's payload: another sort of field is a wrong tag.
-#[cycle(block_block_body_case_items_case_parts_if_parts_item_item_body_item_parts_items_last_block_statement_statement_body_statement_parts_statements_two_blocks)]
+#[cycle(blocks)]
 fn statement_body(sort: Sort, payload: &[u8], at: usize, depth: usize) -> Judged
     requires { at + 3 + length payload.now ≤ 2 ^ 40 }
     ensures { result ≡ statement_body depth at sort payload.now }
@@ -182,7 +182,7 @@ fn statement_body(sort: Sort, payload: &[u8], at: usize, depth: usize) -> Judged
 }
 
 // What a statement holds, by its sort.
-#[cycle(block_block_body_case_items_case_parts_if_parts_item_item_body_item_parts_items_last_block_statement_statement_body_statement_parts_statements_two_blocks)]
+#[cycle(blocks)]
 fn statement_parts(
     sort: StatementSort,
     part: &[u8],
@@ -202,7 +202,7 @@ fn statement_parts(
 }
 
 // A condition, two blocks, and nothing else.
-#[cycle(block_block_body_case_items_case_parts_if_parts_item_item_body_item_parts_items_last_block_statement_statement_body_statement_parts_statements_two_blocks)]
+#[cycle(blocks)]
 fn if_parts(part: &[u8], base: usize, owner: usize, depth: usize) -> Judged
     requires { base + length part.now ≤ 2 ^ 40 }
     ensures { result ≡ then_by (field_by (expression_body depth)) (then_by (field_by (block_body depth)) (then_by (field_by (block_body depth)) ended)) base owner part.now }
@@ -214,7 +214,7 @@ fn if_parts(part: &[u8], base: usize, owner: usize, depth: usize) -> Judged
 }
 
 // Two blocks, and nothing else.
-#[cycle(block_block_body_case_items_case_parts_if_parts_item_item_body_item_parts_items_last_block_statement_statement_body_statement_parts_statements_two_blocks)]
+#[cycle(blocks)]
 fn two_blocks(part: &[u8], base: usize, owner: usize, depth: usize) -> Judged
     requires { base + length part.now ≤ 2 ^ 40 }
     ensures { result ≡ then_by (field_by (block_body depth)) (then_by (field_by (block_body depth)) ended) base owner part.now }
@@ -226,7 +226,7 @@ fn two_blocks(part: &[u8], base: usize, owner: usize, depth: usize) -> Judged
 }
 
 // One block, and nothing else.
-#[cycle(block_block_body_case_items_case_parts_if_parts_item_item_body_item_parts_items_last_block_statement_statement_body_statement_parts_statements_two_blocks)]
+#[cycle(blocks)]
 fn last_block(part: &[u8], base: usize, owner: usize, depth: usize) -> Judged
     requires { base + length part.now ≤ 2 ^ 40 }
     ensures { result ≡ then_by (field_by (block_body depth)) ended base owner part.now }
@@ -238,7 +238,7 @@ fn last_block(part: &[u8], base: usize, owner: usize, depth: usize) -> Judged
 }
 
 // A selector, items, a block, and nothing else.
-#[cycle(block_block_body_case_items_case_parts_if_parts_item_item_body_item_parts_items_last_block_statement_statement_body_statement_parts_statements_two_blocks)]
+#[cycle(blocks)]
 fn case_parts(part: &[u8], base: usize, owner: usize, depth: usize) -> Judged
     requires { base + length part.now ≤ 2 ^ 40 }
     ensures { result ≡ then_by (field_by (expression_body depth)) (then_by (many (is_sort Sort.Item) (field_by (item_body depth))) (then_by (field_by (block_body depth)) ended)) base owner part.now }
@@ -250,7 +250,7 @@ fn case_parts(part: &[u8], base: usize, owner: usize, depth: usize) -> Judged
 }
 
 // Items, a block, and nothing else.
-#[cycle(block_block_body_case_items_case_parts_if_parts_item_item_body_item_parts_items_last_block_statement_statement_body_statement_parts_statements_two_blocks)]
+#[cycle(blocks)]
 fn case_items(part: &[u8], base: usize, owner: usize, depth: usize) -> Judged
     requires { base + length part.now ≤ 2 ^ 40 }
     ensures { result ≡ then_by (many (is_sort Sort.Item) (field_by (item_body depth))) (then_by (field_by (block_body depth)) ended) base owner part.now }
@@ -272,7 +272,7 @@ fn begins_item(tag: u8) -> bool
 }
 
 // The items at the front of a part: how many bytes they take, or the first fault.
-#[cycle(block_block_body_case_items_case_parts_if_parts_item_item_body_item_parts_items_last_block_statement_statement_body_statement_parts_statements_two_blocks)]
+#[cycle(blocks)]
 fn items(part: &[u8], base: usize, owner: usize, depth: usize) -> Step
     requires { base + length part.now ≤ 2 ^ 40 }
     ensures { result ≡ many (is_sort Sort.Item) (field_by (item_body depth)) base owner part.now }
@@ -296,7 +296,7 @@ fn items(part: &[u8], base: usize, owner: usize, depth: usize) -> Step
 }
 
 // One item at the front of a part.
-#[cycle(block_block_body_case_items_case_parts_if_parts_item_item_body_item_parts_items_last_block_statement_statement_body_statement_parts_statements_two_blocks)]
+#[cycle(blocks)]
 fn item(part: &[u8], base: usize, owner: usize, depth: usize) -> Step
     requires { base + length part.now ≤ 2 ^ 40 }
     ensures { result ≡ field_by (item_body depth) base owner part.now }
@@ -311,7 +311,7 @@ fn item(part: &[u8], base: usize, owner: usize, depth: usize) -> Step
 }
 
 // An item's payload: another sort of field is a wrong tag.
-#[cycle(block_block_body_case_items_case_parts_if_parts_item_item_body_item_parts_items_last_block_statement_statement_body_statement_parts_statements_two_blocks)]
+#[cycle(blocks)]
 fn item_body(sort: Sort, payload: &[u8], at: usize, depth: usize) -> Judged
     requires { at + 3 + length payload.now ≤ 2 ^ 40 }
     ensures { result ≡ item_body depth at sort payload.now }
@@ -326,7 +326,7 @@ fn item_body(sort: Sort, payload: &[u8], at: usize, depth: usize) -> Judged
 }
 
 // A constant, a block, and nothing else.
-#[cycle(block_block_body_case_items_case_parts_if_parts_item_item_body_item_parts_items_last_block_statement_statement_body_statement_parts_statements_two_blocks)]
+#[cycle(blocks)]
 fn item_parts(part: &[u8], base: usize, owner: usize, depth: usize) -> Judged
     requires { base + length part.now ≤ 2 ^ 40 }
     ensures { result ≡ then_by (field_by (constant_body depth)) (then_by (field_by (block_body depth)) ended) base owner part.now }
@@ -338,7 +338,7 @@ fn item_parts(part: &[u8], base: usize, owner: usize, depth: usize) -> Judged
 }
 
 // One block at the front of a part.
-#[cycle(block_block_body_case_items_case_parts_if_parts_item_item_body_item_parts_items_last_block_statement_statement_body_statement_parts_statements_two_blocks)]
+#[cycle(blocks)]
 fn block(part: &[u8], base: usize, owner: usize, depth: usize) -> Step
     requires { base + length part.now ≤ 2 ^ 40 }
     ensures { result ≡ field_by (block_body depth) base owner part.now }
@@ -353,7 +353,7 @@ fn block(part: &[u8], base: usize, owner: usize, depth: usize) -> Step
 }
 
 // A block's payload: another sort of field is a wrong tag.
-#[cycle(block_block_body_case_items_case_parts_if_parts_item_item_body_item_parts_items_last_block_statement_statement_body_statement_parts_statements_two_blocks)]
+#[cycle(blocks)]
 fn block_body(sort: Sort, payload: &[u8], at: usize, depth: usize) -> Judged
     requires { at + 3 + length payload.now ≤ 2 ^ 40 }
     ensures { result ≡ block_body depth at sort payload.now }
@@ -368,7 +368,7 @@ fn block_body(sort: Sort, payload: &[u8], at: usize, depth: usize) -> Judged
 }
 
 // Statements until the end.
-#[cycle(block_block_body_case_items_case_parts_if_parts_item_item_body_item_parts_items_last_block_statement_statement_body_statement_parts_statements_two_blocks)]
+#[cycle(blocks)]
 fn statements(part: &[u8], base: usize, owner: usize, depth: usize) -> Judged
     requires { base + length part.now ≤ 2 ^ 40 }
     ensures { result ≡ until_end (field_by (statement_body depth)) base owner part.now }
