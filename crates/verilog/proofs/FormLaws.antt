@@ -42,7 +42,8 @@ module _ (n base owner : ℕ) (l : List ℕ) where
           fixed_then_lem n ended base owner l long _ (ended-over _ _ _ (λ z. e (omega (arith, left, z))))
 
 -- an arm that takes what the arms before it leave: each argument says of one variant that the sort is not it
-pub not-branch : {A : Type 0} (s : Sort) (item block other : A) → (s ≡ Sort.Item → ⊥) → (s ≡ Sort.Block → ⊥) → by_branch s item block other ≡ other
+pub not-branch : {A : Type 0} (s : Sort) (item block other : A) → (s ≡ Sort.Item → ⊥) → (s ≡ Sort.Block → ⊥) →
+    by_branch s item block other ≡ other
 not-branch Sort.Module item block other no-item no-block = refl
 not-branch (Sort.Declaration d) item block other no-item no-block = refl
 not-branch Sort.Process item block other no-item no-block = refl
@@ -56,7 +57,8 @@ not-branch Sort.Netlist item block other no-item no-block = refl
 not-branch Sort.Unknown item block other no-item no-block = refl
 
 -- a match that found another sort
-pub not-expression : {A : Type 0} (s : Sort) (f : ExpressionSort → A) (other : A) → ((e : ExpressionSort) → s ≡ Sort.Expression e → ⊥) → other ≡ on_expression s f other
+pub not-expression : {A : Type 0} (s : Sort) (f : ExpressionSort → A) (other : A) → ((e : ExpressionSort) → s ≡ Sort.Expression e → ⊥) →
+    other ≡ on_expression s f other
 not-expression Sort.Module f other k = refl
 not-expression (Sort.Declaration d) f other k = refl
 not-expression Sort.Process f other k = refl
@@ -69,7 +71,8 @@ not-expression Sort.Drive f other k = refl
 not-expression Sort.Netlist f other k = refl
 not-expression Sort.Unknown f other k = refl
 
-pub not-statement : {A : Type 0} (s : Sort) (f : StatementSort → A) (other : A) → ((t : StatementSort) → s ≡ Sort.Statement t → ⊥) → other ≡ on_statement s f other
+pub not-statement : {A : Type 0} (s : Sort) (f : StatementSort → A) (other : A) → ((t : StatementSort) → s ≡ Sort.Statement t → ⊥) →
+    other ≡ on_statement s f other
 not-statement Sort.Module f other k = refl
 not-statement (Sort.Declaration d) f other k = refl
 not-statement Sort.Process f other k = refl
@@ -82,7 +85,7 @@ not-statement Sort.Drive f other k = refl
 not-statement Sort.Netlist f other k = refl
 not-statement Sort.Unknown f other k = refl
 
--- a test that names one sort, of another: by itself, or as a match counts the sorts
+-- a test that names one sort, of another
 module _ (a s : Sort) where
   pub is-missed : (s ≡ a → ⊥) → is_sort a s ≡ false
   is-missed e = ne_eqb _ _ (λ z. e (sym (sort-back s) ∙ ap sort_of (sym z) ∙ sort-back a))
