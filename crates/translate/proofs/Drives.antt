@@ -24,7 +24,7 @@ use Rattle.translate.proofs.Tracks.{From, from_next, from_at, from-map, Stands, 
 use Rattle.translate.proofs.Merging.{chosen_is, chosen-lt}
 
 -- settled numbers fit
-pub settled-fit : {ds l : List Declaration} {row rs cs ps : List ℕ} {values : List Value} {os us : List Operand} → (delayed : ℕ → Bool) (v : ℕ) →
+pub settled-fit : {ds : List Declaration} {row : List ℕ} {values : List Value} {l : List Declaration} {rs cs ps : List ℕ} {os us : List Operand} → (delayed : ℕ → Bool) (v : ℕ) →
     Stands ds row values l rs os cs → Stands ds row values l rs us ps → all_fit (map width_of l) (settled delayed v cs ps) ≡ true
 unfolding all_fit settled
 settled-fit delayed v none-stands none-stands = refl

@@ -59,19 +59,19 @@ pub data Stands (ds : List Declaration) (row : List ℕ) (values : List Value) :
       Denotes ds row values o (width_of d) x → (is_register d ≡ false → x ≡ r) → Stands ds row values l rs os xs →
       Stands ds row values (d ∷ l) (r ∷ rs) (o ∷ os) (x ∷ xs)
 
-pub stands-kept : {ds l : List Declaration} {row rs xs : List ℕ} {values later : List Value} {os : List Operand} → Grows values later →
+pub stands-kept : {ds : List Declaration} {row : List ℕ} {values later : List Value} {l : List Declaration} {rs xs : List ℕ} {os : List Operand} → Grows values later →
     Stands ds row values l rs os xs → Stands ds row later l rs os xs
 stands-kept g none-stands = none-stands
 stands-kept g (more-stands d k s) = more-stands (denotes-kept g d) k (stands-kept g s)
 
-pub stands_at : {ds l : List Declaration} {row rs xs : List ℕ} {values : List Value} {os : List Operand} → Stands ds row values l rs os xs →
+pub stands_at : {ds : List Declaration} {row : List ℕ} {values : List Value} {l : List Declaration} {rs xs : List ℕ} {os : List Operand} → Stands ds row values l rs os xs →
     (v : ℕ) → Denotes ds row values (operand_at os v) (variable_width l v) (get_or xs v 0)
 unfolding operand_value
 stands_at none-stands v = record { is = refl; wide = refl; fits = lit< tt }
 stands_at (more-stands d k s) zero = d
 stands_at (more-stands d k s) (suc v) = stands_at s v
 
-pub stands_set : {ds l : List Declaration} {row rs xs : List ℕ} {values : List Value} {os : List Operand} → Stands ds row values l rs os xs →
+pub stands_set : {ds : List Declaration} {row : List ℕ} {values : List Value} {l : List Declaration} {rs xs : List ℕ} {os : List Operand} → Stands ds row values l rs os xs →
     (v : ℕ) {o : Operand} {x : ℕ} → register_at l v ≡ true → Denotes ds row values o (variable_width l v) x →
     Stands ds row values l rs (set os v o) (set xs v x)
 stands_set none-stands v e n = none-stands

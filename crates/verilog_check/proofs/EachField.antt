@@ -27,6 +27,7 @@ module _ {P : Node → Type 0} where
   each_stands : {l : List (Placed Node)} {before : List Node} {place : ℕ} {n : Node} → Each P l → Stands l before place n → P n
   each_stands (one_more_lem p r) (first i j) = rw (← j) p
   each_stands (one_more_lem p r) (next s) = each_stands r s
+  each_stands {before = before} {place = place} {n = n} no_field x3 = elim x3 [ ]
 
 pub each-fails : (test : List Node → Node → Bool) (before : List Node) {l : List (Placed Node)} → Each (λ n. (earlier : List Node) → test earlier n ≡ false) l →
     first_broken test before l ≡ Found.Nowhere

@@ -31,6 +31,7 @@ module _ (test : Node → Bool) where
   pub none-member : (l : List Node) → some_node test l ≡ false → (n : Node) → Memᴰ n l → test n ≡ false
   none-member (k ∷ l) e n (Memᴰ.head same) = rw same (neither (test k) (some_node test l) e).0
   none-member (k ∷ l) e n (Memᴰ.tail m) = none-member l (neither (test k) (some_node test l) e).1 n m
+  none-member [] e n x'' = elim x'' [ ]
 
 either_way : (t r : Bool) {s : Bool} → s ≡ cond t false r → (r || s) ≡ r
 either_way t true h = refl

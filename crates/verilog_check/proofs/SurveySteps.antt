@@ -8,8 +8,6 @@ use lib.Dec.{eqb}
 use lib.ListN.{length, get_or, take, drop, set, length-drop, length-set}
 use lib.Seq.{drop-drop, get_or-drop}
 use borrow.Author.Tests.{eq-eqb, ne_eqb}
-use types.Run.{OneOf, miss}
-use denote.Enum.Declared as enums
 use Rattle.tagged.specs.Fields.{open_of}
 use Rattle.tagged.specs.declared.sorts.Kind.{Kind}
 use Rattle.tagged.specs.declared.sorts.Kind.TheVariants as Kind
@@ -19,55 +17,39 @@ use Rattle.tagged.specs.declared.sorts.Sort.{Sort}
 use Rattle.tagged.specs.declared.sorts.Sort.TheVariants as Sort
 use Rattle.tagged.specs.declared.fields.Opened.{Opened}
 use Rattle.tagged.specs.declared.fields.Opened.TheVariants as Opened
-use Rattle.tagged.specs.contracts.sorts.StatementSort as statement-sorts
 use Rattle.tagged.proofs.ByteLaws.{rest}
 use Rattle.tagged.proofs.FieldLaws.{Whole, open-whole, whole_open}
-use Rattle.verilog.proofs.FormLaws.{Among, but_process, but_statement}
 use Rattle.verilog_check.specs.Tables.{kind_bit, with_first}
 use Rattle.verilog_check.specs.Survey.{step_over, begun_after, noted, survey_from}
 
--- a match found a statement's sort among these variants
-abbrev AmongStatements : List ℕ → StatementSort → Type 0
-AmongStatements keys s = OneOf keys (enums.tag_of statement-sorts.the_type s)
-
--- the variants as a match counts them: the two assignments, the two others, and all sorts but those that can hold statements
-abbrev assignments : List ℕ
-assignments = 0 ∷ 1 ∷ []
-
-abbrev choices : List ℕ
-choices = 2 ∷ 3 ∷ []
-
-abbrev no_statements : List ℕ
-no_statements = 0 ∷ 1 ∷ 6 ∷ 7 ∷ 8 ∷ 9 ∷ 10 ∷ []
-
 -- how far the next field stands
-pub over-assignment : (s : StatementSort) → AmongStatements assignments s → (n : ℕ) → step_over (Sort.Statement s) n ≡ n + 3
+pub over-assignment : (s : StatementSort) → (s ≡ StatementSort.If → ⊥) → (s ≡ StatementSort.Case → ⊥) → (n : ℕ) → step_over (Sort.Statement s) n ≡ n + 3
 unfolding step_over
-over-assignment (StatementSort.Assign kind) k n = refl
-over-assignment (StatementSort.AssignBit kind) k n = refl
-over-assignment StatementSort.If k n = absurd (miss assignments 2 tt k)
-over-assignment StatementSort.Case k n = absurd (miss assignments 3 tt k)
+over-assignment (StatementSort.Assign kind) no_if no_case n = refl
+over-assignment (StatementSort.AssignBit kind) no_if no_case n = refl
+over-assignment StatementSort.If no_if no_case n = absurd (no_if refl)
+over-assignment StatementSort.Case no_if no_case n = absurd (no_case refl)
 
-pub over-other : (s : Sort) → Among no_statements s → (n : ℕ) → step_over s n ≡ n + 3
+pub over-other : (s : Sort) → ((t : StatementSort) → s ≡ Sort.Statement t → ⊥) → (s ≡ Sort.Process → ⊥) → (s ≡ Sort.Item → ⊥) → (s ≡ Sort.Block → ⊥) → (n : ℕ) → step_over s n ≡ n + 3
 unfolding step_over
-over-other Sort.Module k n = refl
-over-other (Sort.Declaration d) k n = refl
-over-other Sort.Process k n = absurd (miss no_statements 2 tt k)
-over-other (Sort.Statement s) k n = absurd (miss no_statements 3 tt k)
-over-other Sort.Item k n = absurd (miss no_statements 4 tt k)
-over-other Sort.Block k n = absurd (miss no_statements 5 tt k)
-over-other (Sort.Expression e) k n = refl
-over-other (Sort.Cell c) k n = refl
-over-other Sort.Drive k n = refl
-over-other Sort.Netlist k n = refl
-over-other Sort.Unknown k n = refl
+over-other Sort.Module no_statement no_process no_item no_block n = refl
+over-other (Sort.Declaration d) no_statement no_process no_item no_block n = refl
+over-other Sort.Process no_statement no_process no_item no_block n = absurd (no_process refl)
+over-other (Sort.Statement s) no_statement no_process no_item no_block n = absurd (no_statement s refl)
+over-other Sort.Item no_statement no_process no_item no_block n = absurd (no_item refl)
+over-other Sort.Block no_statement no_process no_item no_block n = absurd (no_block refl)
+over-other (Sort.Expression e) no_statement no_process no_item no_block n = refl
+over-other (Sort.Cell c) no_statement no_process no_item no_block n = refl
+over-other Sort.Drive no_statement no_process no_item no_block n = refl
+over-other Sort.Netlist no_statement no_process no_item no_block n = refl
+over-other Sort.Unknown no_statement no_process no_item no_block n = refl
 
 -- how many processes have begun
-pub begun-other : (s : Sort) → Among but_process s → (begun : ℕ) → begun_after s begun ≡ begun
+pub begun-other : (s : Sort) → (s ≡ Sort.Process → ⊥) → (begun : ℕ) → begun_after s begun ≡ begun
 unfolding begun_after
 begun-other Sort.Module k begun = refl
 begun-other (Sort.Declaration d) k begun = refl
-begun-other Sort.Process k begun = absurd (miss but_process 2 tt k)
+begun-other Sort.Process k begun = absurd (k refl)
 begun-other (Sort.Statement s) k begun = refl
 begun-other Sort.Item k begun = refl
 begun-other Sort.Block k begun = refl
@@ -84,19 +66,19 @@ kind-within Kind.NonBlocking = omega arith
 
 -- the table after a field
 module _ (v begun : ℕ) (firsts : List ℕ) where
-  pub noted-choice : (s : StatementSort) → AmongStatements choices s → noted (Sort.Statement s) v begun firsts ≡ firsts
+  pub noted-choice : (s : StatementSort) → ((kind : Kind) → s ≡ StatementSort.Assign kind → ⊥) → ((kind : Kind) → s ≡ StatementSort.AssignBit kind → ⊥) → noted (Sort.Statement s) v begun firsts ≡ firsts
   unfolding noted
-  noted-choice (StatementSort.Assign kind) k = absurd (miss choices 0 tt k)
-  noted-choice (StatementSort.AssignBit kind) k = absurd (miss choices 1 tt k)
-  noted-choice StatementSort.If k = refl
-  noted-choice StatementSort.Case k = refl
+  noted-choice (StatementSort.Assign kind) no_assign no_assign_bit = absurd (no_assign kind refl)
+  noted-choice (StatementSort.AssignBit kind) no_assign no_assign_bit = absurd (no_assign_bit kind refl)
+  noted-choice StatementSort.If no_assign no_assign_bit = refl
+  noted-choice StatementSort.Case no_assign no_assign_bit = refl
 
-  pub noted_other : (s : Sort) → Among but_statement s → noted s v begun firsts ≡ firsts
+  pub noted_other : (s : Sort) → ((t : StatementSort) → s ≡ Sort.Statement t → ⊥) → noted s v begun firsts ≡ firsts
   unfolding noted
   noted_other Sort.Module k = refl
   noted_other (Sort.Declaration d) k = refl
   noted_other Sort.Process k = refl
-  noted_other (Sort.Statement s) k = absurd (miss but_statement 3 tt k)
+  noted_other (Sort.Statement s) k = absurd (k s refl)
   noted_other Sort.Item k = refl
   noted_other Sort.Block k = refl
   noted_other (Sort.Expression e) k = refl

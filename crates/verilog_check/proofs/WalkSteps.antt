@@ -24,7 +24,7 @@ use Rattle.tagged.proofs.FieldLists.{fields-none, field-within, field-more, fiel
 use Rattle.verilog.specs.Tree.{Expression, constant}
 use Rattle.verilog.specs.Nodes.{process, expression, statement, item_of}
 use Rattle.verilog.specs.Reading.{front_by, expression_with, expression_in}
-use Rattle.verilog.proofs.FormLaws.{Among, but_expression, but_statement, but_process, not-expression, not-statement, is-missed}
+use Rattle.verilog.proofs.FormLaws.{not-expression, not-statement, is-missed}
 use Rattle.verilog_check.specs.Walk.{Judge, Walker, walk_all, before_operands, before_parts, walk_expression, statement_of, by_part, selector_width, walk_statement, walk_part, walk_item, walk_process, walk_processes}
 
 -- a walk over fields, `here`, judges the first by `walk` and goes on by `further`
@@ -101,7 +101,7 @@ module _ (judge : Judge) (d at : ℕ) (s : Sort) (l : List ℕ) where
   expression-deep e = rw e
 
   module _ (h : d ≡ 0 → ⊥) where
-    pub expression-other : Among but_expression s → Answer.Accepted ≡ walk_expression judge d at s l
+    pub expression-other : ((e : ExpressionSort) → s ≡ Sort.Expression e → ⊥) → Answer.Accepted ≡ walk_expression judge d at s l
     expression-other k = not-expression s _ _ k ∙ sym (expression-step judge d h at s l)
 
     pub expression-of : (e : ExpressionSort) → s ≡ Sort.Expression e → (own : Answer) → own ≡ judge (expression (expression_with (expression_in (d - 1)) e l)) at →
@@ -124,7 +124,7 @@ module _ (judge : Judge) (width : Expression → ℕ) (d at : ℕ) (s : Sort) (l
   statement-deep e = rw e
 
   module _ (h : d ≡ 0 → ⊥) where
-    pub statement-other : Among but_statement s → Answer.Accepted ≡ walk_statement judge width d at s l
+    pub statement-other : ((t : StatementSort) → s ≡ Sort.Statement t → ⊥) → Answer.Accepted ≡ walk_statement judge width d at s l
     statement-other k = not-statement s _ _ k ∙ sym (statement-step judge width d h at s l)
 
     pub statement-of : (t : StatementSort) → s ≡ Sort.Statement t → (own : Answer) → own ≡ judge (statement (statement_of (d - 1) t l)) at →
@@ -140,21 +140,18 @@ part_step judge width zero h w at s l = absurd (h refl)
 part_step judge width (suc d) h w at s l = rw sub-one
 
 -- all but an expression, an item or a block
-abbrev but_part : List ℕ
-but_part = 0 ∷ 1 ∷ 2 ∷ 3 ∷ 7 ∷ 8 ∷ 9 ∷ 10 ∷ []
-
-not-part : (s : Sort) (in_expression in_item in_block : Answer) → Among but_part s → Answer.Accepted ≡ by_part s in_expression in_item in_block
-not-part Sort.Module in_expression in_item in_block k = refl
-not-part (Sort.Declaration d) in_expression in_item in_block k = refl
-not-part Sort.Process in_expression in_item in_block k = refl
-not-part (Sort.Statement s) in_expression in_item in_block k = refl
-not-part Sort.Item in_expression in_item in_block k = absurd (miss but_part 4 tt k)
-not-part Sort.Block in_expression in_item in_block k = absurd (miss but_part 5 tt k)
-not-part (Sort.Expression e) in_expression in_item in_block k = absurd (miss but_part 6 tt k)
-not-part (Sort.Cell c) in_expression in_item in_block k = refl
-not-part Sort.Drive in_expression in_item in_block k = refl
-not-part Sort.Netlist in_expression in_item in_block k = refl
-not-part Sort.Unknown in_expression in_item in_block k = refl
+not-part : (s : Sort) (in_expression in_item in_block : Answer) → ((e : ExpressionSort) → s ≡ Sort.Expression e → ⊥) → (s ≡ Sort.Item → ⊥) → (s ≡ Sort.Block → ⊥) → Answer.Accepted ≡ by_part s in_expression in_item in_block
+not-part Sort.Module in_expression in_item in_block no_expression no_item no_block = refl
+not-part (Sort.Declaration d) in_expression in_item in_block no_expression no_item no_block = refl
+not-part Sort.Process in_expression in_item in_block no_expression no_item no_block = refl
+not-part (Sort.Statement s) in_expression in_item in_block no_expression no_item no_block = refl
+not-part Sort.Item in_expression in_item in_block no_expression no_item no_block = absurd (no_item refl)
+not-part Sort.Block in_expression in_item in_block no_expression no_item no_block = absurd (no_block refl)
+not-part (Sort.Expression e) in_expression in_item in_block no_expression no_item no_block = absurd (no_expression e refl)
+not-part (Sort.Cell c) in_expression in_item in_block no_expression no_item no_block = refl
+not-part Sort.Drive in_expression in_item in_block no_expression no_item no_block = refl
+not-part Sort.Netlist in_expression in_item in_block no_expression no_item no_block = refl
+not-part Sort.Unknown in_expression in_item in_block no_expression no_item no_block = refl
 
 module _ (judge : Judge) (width : Expression → ℕ) (d w at : ℕ) (s : Sort) (l : List ℕ) where
   pub part-deep : d ≡ 0 → Answer.Accepted ≡ walk_part judge width d w at s l
@@ -162,8 +159,8 @@ module _ (judge : Judge) (width : Expression → ℕ) (d w at : ℕ) (s : Sort) 
   part-deep e = rw e
 
   module _ (h : d ≡ 0 → ⊥) where
-    pub part-other : Among but_part s → Answer.Accepted ≡ walk_part judge width d w at s l
-    part-other k = not-part s _ _ _ k ∙ sym (part_step judge width d h w at s l)
+    pub part-other : ((e : ExpressionSort) → s ≡ Sort.Expression e → ⊥) → (s ≡ Sort.Item → ⊥) → (s ≡ Sort.Block → ⊥) → Answer.Accepted ≡ walk_part judge width d w at s l
+    part-other no_expression no_item no_block = not-part s _ _ _ no_expression no_item no_block ∙ sym (part_step judge width d h w at s l)
 
     module _ (r : Answer) where
       pub part-expression : (e : ExpressionSort) → s ≡ Sort.Expression e → r ≡ walk_expression judge d at s l → r ≡ walk_part judge width d w at s l
@@ -182,9 +179,9 @@ item-of judge width d w at l own b = record { step = rw b }
 
 -- a process
 module _ (judge : Judge) (width : Expression → ℕ) (at : ℕ) (s : Sort) (l : List ℕ) where
-  pub process-other : Among but_process s → Answer.Accepted ≡ walk_process judge width at s l
+  pub process-other : (s ≡ Sort.Process → ⊥) → Answer.Accepted ≡ walk_process judge width at s l
   unfolding walk_process
-  process-other k = rw (is-missed Sort.Process s but_process tt k)
+  process-other k = rw (is-missed Sort.Process s k)
 
   pub process-of : s ≡ Sort.Process → (own : Answer) → own ≡ judge process at →
       OwnFirst (walk_process judge width at s l) own (walk_all (walk_statement judge width 30) (fields_at (at + 3) l))

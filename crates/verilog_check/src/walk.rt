@@ -109,7 +109,7 @@ fn operands(
 }
 
 // A statement, then its expressions, items and blocks.
-#[cycle(item_part_parts_statement_statements)]
+#[cycle(statement_walk)]
 fn statement(
     process: usize,
     widths: &[u8],
@@ -161,7 +161,7 @@ fn statement(
 }
 
 // The expressions, items and blocks of a list, in a statement whose first expression has the width `selector`.
-#[cycle(item_part_parts_statement_statements)]
+#[cycle(statement_walk)]
 fn parts(
     process: usize,
     widths: &[u8],
@@ -204,7 +204,7 @@ fn parts(
 }
 
 // An expression, an item or a block.
-#[cycle(item_part_parts_statement_statements)]
+#[cycle(statement_walk)]
 fn part(
     process: usize,
     widths: &[u8],
@@ -241,7 +241,7 @@ fn part(
 }
 
 // An item, then its constant and its block.
-#[cycle(item_part_parts_statement_statements)]
+#[cycle(statement_walk)]
 fn item(
     process: usize,
     widths: &[u8],
@@ -271,7 +271,7 @@ fn item(
 }
 
 // The statements of a block or of a process.
-#[cycle(item_part_parts_statement_statements)]
+#[cycle(statement_walk)]
 fn statements(
     process: usize,
     widths: &[u8],

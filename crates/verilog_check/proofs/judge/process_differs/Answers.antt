@@ -1,0 +1,20 @@
+-- `verilog_check::judge::process_differs` meets its contract: each arm is the statement that the match found. Assumes nothing.
+use Rattle.verilog_check.specs.Tables.{other_process}
+use Rattle.verilog_check.proofs.OtherArms.{no-assignment}
+use borrow.Author.Rules.{rules}
+use Rattle.verilog_check.proofs.judge.process_differs.Goals as goal
+
+pub returns-in-Assign : goal.returns-in-Assign
+returns-in-Assign c =
+    let byte_at = c.byte_at in
+    rw (c.in-Assign.is, ← byte_at.ensures, ← c.first_of-first.ensures)
+
+pub returns-in-AssignBit : goal.returns-in-AssignBit
+returns-in-AssignBit c =
+    let byte_at = c.byte_at in
+    rw (c.in-AssignBit.is, ← byte_at.ensures, ← c.first_of-first.ensures)
+
+pub returns-in_default : goal.returns-in_default
+returns-in_default c =
+    let args = c.args in
+    no-assignment args.depth args.payload.now (λ kind v. other_process args.firsts.now args.process v) args.sort c.in_default.not-Assign c.in_default.not-AssignBit
