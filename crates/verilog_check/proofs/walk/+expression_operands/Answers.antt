@@ -14,14 +14,6 @@ use Rattle.verilog_check.specs.Walk.{Walker, walk_all, walk_expression}
 use Rattle.verilog_check.proofs.WalkSteps.{payload-within, all-steps, walk-done, walk-next, own_alone, own-joined, behind-short, behind, expression-deep, expression-other, expression-of}
 use Rattle.verilog_check.proofs.walk.+expression_operands.Goals as goal
 
-operands-within : (t : ℕ) (c : operands-lts.After-sort (operands-in t) (operands-at t) operands.Post operands-Inv-loop operands-μ-loop) →
-    c.before.before.before.before.loop.at + 3 + c.sort.given.0.1.0 ≤ length c.before.before.before.before.before.before.before.before.args.list.now
-operands-within t c =
-    let args = c.before.before.before.before.before.before.before.before.args in
-    let open-field = c.before.before.open-field in
-    field-within args.list.now _ _ open-field.ensures _ _ c.sort.given.1
-
---
 pub expression-returns-then-depth-eq0 : goal.expression-returns-then-depth-eq0
 expression-returns-then-depth-eq0 t c marks = expression-deep _ _ _ _ _ c.if-depth-eq0.true
 
@@ -52,10 +44,10 @@ pub operands-loop-sort-init : goal.operands-loop-sort-init
 operands-loop-sort-init t c = (search rules, λ marks. rw add-zero)
 
 pub operands-payload_at-payload-requires : goal.operands-payload_at-payload-requires
-operands-payload_at-payload-requires t c = (omega (arith, operands-within t c), search rules)
+operands-payload_at-payload-requires t c = (omega (arith, field-within c.args.list.now _ _ c.open_field.ensures _ _ c.in-Field.is), search rules)
 
 pub operands-overflow_add-base : goal.operands-overflow_add-base
-operands-overflow_add-base t c = omega (arith, operands-within t c)
+operands-overflow_add-base t c = omega (arith, field-within c.args.list.now _ _ c.open_field.ensures _ _ c.in-Field.is)
 
 pub operands-expression-field-requires : goal.operands-expression-field-requires
 operands-expression-field-requires t c =
@@ -64,13 +56,13 @@ operands-expression-field-requires t c =
     omega (arith, payload-within args.list.now _ _ open-field.ensures _ _ c.in-Field.is _ c.payload_at-payload.ensures)
 
 pub operands-overflow_add-at : goal.operands-overflow_add-at
-operands-overflow_add-at t c = omega (arith, operands-within t c)
+operands-overflow_add-at t c = omega (arith, field-within c.args.list.now _ _ c.open_field.ensures _ _ c.in-Field.is)
 
 pub operands-overflow_add-at-in-Field : goal.operands-overflow_add-at-in-Field
-operands-overflow_add-at-in-Field t c = omega (arith, operands-within t c)
+operands-overflow_add-at-in-Field t c = omega (arith, field-within c.args.list.now _ _ c.open_field.ensures _ _ c.in-Field.is)
 
 pub operands-loop-sort-smaller : goal.operands-loop-sort-smaller
-operands-loop-sort-smaller t c = omega (arith, operands-within t c)
+operands-loop-sort-smaller t c = omega (arith, field-within c.args.list.now _ _ c.open_field.ensures _ _ c.in-Field.is)
 
 pub operands-loop-sort-preserved : goal.operands-loop-sort-preserved
 operands-loop-sort-preserved t c =
@@ -78,7 +70,7 @@ operands-loop-sort-preserved t c =
     let open-field = c.open_field in
     let payload-at = c.payload_at-payload in
     let expression = c.expression-field in
-    (omega (arith, operands-within t c), λ marks. walk-next (all-steps _) _ loop.best _ _ _ (loop.invariant.1 marks) _ open-field.ensures _ _ c.in-Field.is _ payload-at.ensures _ (expression.ensures marks) _ c.or_lower-best.ensures)
+    (omega (arith, field-within c.args.list.now _ _ c.open_field.ensures _ _ c.in-Field.is), λ marks. walk-next (all-steps _) _ loop.best _ _ _ (loop.invariant.1 marks) _ open-field.ensures _ _ c.in-Field.is _ payload-at.ensures _ (expression.ensures marks) _ c.or_lower-best.ensures)
 
 pub operands-returns-in-Refused : goal.operands-returns-in-Refused
 operands-returns-in-Refused t c marks =
