@@ -6,11 +6,8 @@ use mathlib.Core.Bool.{false}
 use lib.Dec.{eqb}
 use Rattle.tagged.specs.Answers.{number_of, reply_of, translation_reply, rule_of, answer_of, translation_of, Promise}
 use Rattle.tagged.specs.declared.answers.Rule.{Rule}
-use Rattle.tagged.specs.declared.answers.Rule.TheVariants as Rule
 use Rattle.tagged.specs.declared.answers.Answer.{Answer}
-use Rattle.tagged.specs.declared.answers.Answer.TheVariants as Answer
 use Rattle.tagged.specs.declared.answers.Translation.{Translation}
-use Rattle.tagged.specs.declared.answers.Translation.TheVariants as Translation
 
 -- a rule is that of its number
 pub rule-back : (r : Rule) → rule_of (number_of r) ≡ r

@@ -10,9 +10,7 @@ use Rattle.tagged.specs.Choice.{choose}
 use Rattle.tagged.specs.Sorts.{sort_of}
 use Rattle.tagged.specs.declared.sorts.Sort.{Sort}
 use Rattle.tagged.specs.declared.fields.Judged.{Judged}
-use Rattle.tagged.specs.declared.fields.Judged.TheVariants as Judged
 use Rattle.tagged.specs.declared.fields.Step.{Step}
-use Rattle.tagged.specs.declared.fields.Step.TheVariants as Step
 use Rattle.tagged.specs.Fields.{Judge, Stepper, Body, further, field_by, then_by, fixed_then, ended, next_field, many_from, many, any_sort, until_end}
 use Rattle.tagged.proofs.FieldLaws.{field-passed, passed-field, ended-fine}
 use Rattle.tagged.proofs.ListLaws.{further_past}

@@ -18,15 +18,10 @@ use Rattle.tagged.specs.Refusals.{first_broken}
 use Rattle.tagged.specs.Declarations.{declaration_body, declarations_step, declaration_read, declarations_at, declarations_in, value_broken, name_taken, name_broken, count_broken, declaration_breaks}
 use Rattle.tagged.specs.Rows.{row_numbers, all_fit, rows_fit, row_answer}
 use Rattle.tagged.specs.declared.answers.Rule.{Rule}
-use Rattle.tagged.specs.declared.answers.Rule.TheVariants as Rule
 use Rattle.tagged.specs.declared.answers.Answer.{Answer}
-use Rattle.tagged.specs.declared.answers.Answer.TheVariants as Answer
 use Rattle.tagged.specs.declared.answers.Found.{Found}
-use Rattle.tagged.specs.declared.answers.Found.TheVariants as Found
 use Rattle.tagged.specs.declared.fields.Opened.{Opened}
-use Rattle.tagged.specs.declared.fields.Opened.TheVariants as Opened
 use Rattle.tagged.specs.declared.fields.Step.{Step}
-use Rattle.tagged.specs.declared.fields.Step.TheVariants as Step
 
 -- answers as numbers: a place as it is, all else from 1,000,000 on
 

@@ -13,13 +13,9 @@ use Rattle.tagged.specs.Sorts.{tag_of, is_declaration}
 use Rattle.tagged.specs.Fields.{field_bytes, all_bytes_of, placed_by, field_by, fixed_then, any_bytes, passed_bytes}
 use Rattle.tagged.specs.Declarations.{Declaration, input, register, declaration_payload, declaration_bytes, fixed_bytes, declaration_body, declarations_step, declaration_in, declaration_read, declarations_at, declarations_in, after_declarations, initial_of}
 use Rattle.tagged.specs.declared.sorts.DeclarationSort.{DeclarationSort}
-use Rattle.tagged.specs.declared.sorts.DeclarationSort.TheVariants as DeclarationSort
 use Rattle.tagged.specs.declared.sorts.Sort.{Sort}
-use Rattle.tagged.specs.declared.sorts.Sort.TheVariants as Sort
 use Rattle.tagged.specs.declared.fields.Judged.{Judged}
-use Rattle.tagged.specs.declared.fields.Judged.TheVariants as Judged
 use Rattle.tagged.specs.declared.fields.Step.{Step}
-use Rattle.tagged.specs.declared.fields.Step.TheVariants as Step
 use Rattle.tagged.proofs.ByteLaws.{bytes-four, four-back}
 use Rattle.tagged.proofs.ListBytes.{Stops, Each, Stands, many-run, list-many, list_read}
 use Rattle.tagged.proofs.RunLaws.{run-listed, many-within}

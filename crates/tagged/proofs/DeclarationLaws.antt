@@ -8,8 +8,6 @@ use lib.ListN.{length, get_or, take, drop}
 use lib.Dec.{leb}
 use lib.Seq.{length-take-le}
 use borrow.Author.Tests.{lt-ltb, le-ltb}
-use types.Run.{OneOf, miss}
-use denote.Enum.Declared as enums
 use Rattle.words.specs.Widths.{is_width, fits_width}
 use Rattle.tagged.specs.Bytes.{four_of}
 use Rattle.tagged.specs.Sorts.{on_declaration, is_declaration}
@@ -18,19 +16,11 @@ use Rattle.tagged.specs.Limits.{most_variables}
 use Rattle.tagged.specs.Names.{is_name}
 use Rattle.tagged.specs.Declarations.{Declaration, input, register, width_of, name_of, sort_of_declaration, fixed_bytes, declaration_body, declaration_in, declaration_read, next_in, declarations_at, declarations_in, value_broken, name_taken, name_broken, count_broken, declaration_breaks}
 use Rattle.tagged.specs.declared.sorts.DeclarationSort.{DeclarationSort}
-use Rattle.tagged.specs.declared.sorts.DeclarationSort.TheVariants as DeclarationSort
 use Rattle.tagged.specs.declared.sorts.Sort.{Sort}
-use Rattle.tagged.specs.declared.sorts.Sort.TheVariants as Sort
 use Rattle.tagged.specs.declared.fields.Opened.{Opened}
-use Rattle.tagged.specs.declared.fields.Opened.TheVariants as Opened
 use Rattle.tagged.specs.declared.fields.Judged.{Judged}
-use Rattle.tagged.specs.declared.fields.Judged.TheVariants as Judged
 use Rattle.tagged.specs.declared.declarations.Next.{Next}
-use Rattle.tagged.specs.declared.declarations.Next.TheVariants as Next
 use Rattle.tagged.specs.declared.answers.Rule.{Rule}
-use Rattle.tagged.specs.declared.answers.Rule.TheVariants as Rule
-use Rattle.tagged.specs.contracts.sorts.Sort as sorts
-use Rattle.tagged.specs.contracts.answers.Rule as rules
 use Rattle.tagged.proofs.FieldLaws.{Whole, open-whole}
 use Rattle.tagged.proofs.ListLaws.{read-end, read-stop, read_more, read-anywhere}
 

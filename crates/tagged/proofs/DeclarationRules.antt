@@ -9,9 +9,7 @@ use Rattle.tagged.specs.Answers.{number_of}
 use Rattle.tagged.specs.Refusals.{first_broken, first_refusal, after_answer}
 use Rattle.tagged.specs.Declarations.{Declaration, declaration_breaks, declaration_rules}
 use Rattle.tagged.specs.declared.answers.Rule.{Rule}
-use Rattle.tagged.specs.declared.answers.Rule.TheVariants as Rule
 use Rattle.tagged.specs.declared.answers.Answer.{Answer}
-use Rattle.tagged.specs.declared.answers.Answer.TheVariants as Answer
 use Rattle.tagged.specs.declared.answers.Found.TheVariants as Found
 use Rattle.tagged.proofs.RefusalLaws.{passes-nowhere, in_order, order-rising, rising-above, none-accepted, each_none, refusal-append}
 

@@ -14,7 +14,6 @@ use Rattle.tagged.specs.Limits.{longest_name, most_variables}
 use Rattle.tagged.specs.Names.{is_digit, is_name_byte, all_name_bytes, is_name_length, is_name, same_name}
 use Rattle.tagged.specs.Declarations.{Declaration, input, register, name_of, value_broken, name_taken, name_broken, count_broken, declaration_breaks}
 use Rattle.tagged.specs.declared.answers.Rule.{Rule}
-use Rattle.tagged.specs.declared.answers.Rule.TheVariants as Rule
 use Rattle.tagged.proofs.NameLaws.{same_refl, same-equal}
 use Rattle.tagged.specs.DeclarationPhrases.{NoWidth, zero_wide, too_wide, NoName, no_byte, too_long, other_byte, digit_first}
 use Rattle.tagged.specs.DeclarationPhrases.{DeclarationPhrase, declared_width, initial_value, no_name, earlier_name, many_variables}

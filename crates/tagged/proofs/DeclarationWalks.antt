@@ -12,9 +12,7 @@ use Rattle.tagged.specs.Refusals.{first_broken}
 use Rattle.tagged.specs.Declarations.{Declaration, name_of, fixed_bytes, declaration_in, next_in, declarations_at, declarations_in, name_taken}
 use Rattle.tagged.specs.declared.sorts.DeclarationSort.{DeclarationSort}
 use Rattle.tagged.specs.declared.declarations.Next.{Next}
-use Rattle.tagged.specs.declared.declarations.Next.TheVariants as Next
 use Rattle.tagged.specs.declared.answers.Found.{Found}
-use Rattle.tagged.specs.declared.answers.Found.TheVariants as Found
 use Rattle.tagged.proofs.ByteLaws.{rest}
 use Rattle.tagged.proofs.DeclarationLaws.{name_in_lem, next-whole, next-at, next-ended, next-in, none_in}
 

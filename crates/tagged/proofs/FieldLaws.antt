@@ -11,11 +11,8 @@ use borrow.Author.Tests.{leb-true, ltb-false, eq-eqb, ne_eqb, le-leb, lt-leb, lt
 use Rattle.tagged.specs.Sorts.{sort_of}
 use Rattle.tagged.specs.declared.sorts.Sort.{Sort}
 use Rattle.tagged.specs.declared.fields.Opened.{Opened}
-use Rattle.tagged.specs.declared.fields.Opened.TheVariants as Opened
 use Rattle.tagged.specs.declared.fields.Judged.{Judged}
-use Rattle.tagged.specs.declared.fields.Judged.TheVariants as Judged
 use Rattle.tagged.specs.declared.fields.Step.{Step}
-use Rattle.tagged.specs.declared.fields.Step.TheVariants as Step
 use Rattle.tagged.specs.Fields.{size_of, open_of, Judge, Stepper, Body, passing, after_opening, field_by, then_by, fixed_then, ended}
 use Rattle.tagged.proofs.ByteLaws.{rest}
 

@@ -7,7 +7,6 @@ use lib.ListN.{length, take, drop, length-drop}
 use Rattle.tagged.specs.Sorts.{sort_of}
 use Rattle.tagged.specs.declared.sorts.Sort.{Sort}
 use Rattle.tagged.specs.declared.fields.Opened.{Opened}
-use Rattle.tagged.specs.declared.fields.Opened.TheVariants as Opened
 use Rattle.tagged.specs.Fields.{field_bytes, open_of, any_sort, Placed, Field, fields_at}
 use Rattle.tagged.proofs.ByteLaws.{rest}
 use Rattle.tagged.proofs.FieldLaws.{Whole, open-whole}

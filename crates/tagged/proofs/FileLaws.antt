@@ -11,11 +11,8 @@ use Rattle.tagged.specs.Fields.{size_of, Body, field_by}
 use Rattle.tagged.specs.Files.{outer_fits, outer_answer, file_answer}
 use Rattle.tagged.specs.Refusals.{after_form, after_answer}
 use Rattle.tagged.specs.declared.answers.Rule.{Rule}
-use Rattle.tagged.specs.declared.answers.Rule.TheVariants as Rule
 use Rattle.tagged.specs.declared.answers.Answer.{Answer}
-use Rattle.tagged.specs.declared.answers.Answer.TheVariants as Answer
 use Rattle.tagged.specs.declared.fields.Step.{Step}
-use Rattle.tagged.specs.declared.fields.Step.TheVariants as Step
 use Rattle.tagged.proofs.FieldLaws.{field-passed}
 use Rattle.tagged.proofs.RefusalLaws.{refused-not-accepted}
 

@@ -8,7 +8,6 @@ use Rattle.tagged.specs.Fields.{Placed, unplaced}
 use Rattle.tagged.specs.Stands.{Stands, first, next}
 use Rattle.tagged.specs.Refusals.{first_broken, or_else}
 use Rattle.tagged.specs.declared.answers.Found.{Found}
-use Rattle.tagged.specs.declared.answers.Found.TheVariants as Found
 
 -- a place, or else none
 pub or-nowhere : (f : Found) → or_else f Found.Nowhere ≡ f

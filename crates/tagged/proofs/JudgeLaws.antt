@@ -12,9 +12,7 @@ use borrow.Author.Tests.{eqb-true, ltb-false, eq-eqb, le-ltb}
 use Rattle.tagged.specs.Sorts.{is_sort}
 use Rattle.tagged.specs.declared.sorts.Sort.{Sort}
 use Rattle.tagged.specs.declared.fields.Judged.{Judged}
-use Rattle.tagged.specs.declared.fields.Judged.TheVariants as Judged
 use Rattle.tagged.specs.declared.fields.Step.{Step}
-use Rattle.tagged.specs.declared.fields.Step.TheVariants as Step
 use Rattle.tagged.specs.Fields.{Judge, Stepper, after_step, then_by, fixed_then, ended}
 
 -- what a fine payload tells

@@ -10,11 +10,8 @@ use Rattle.tagged.specs.Bytes.{AllBytes, two_bytes, number_of_two}
 use Rattle.tagged.specs.Sorts.{sort_of, tag_of}
 use Rattle.tagged.specs.declared.sorts.Sort.{Sort}
 use Rattle.tagged.specs.declared.fields.Opened.{Opened}
-use Rattle.tagged.specs.declared.fields.Opened.TheVariants as Opened
 use Rattle.tagged.specs.declared.fields.Judged.{Judged}
-use Rattle.tagged.specs.declared.fields.Judged.TheVariants as Judged
 use Rattle.tagged.specs.declared.fields.Step.{Step}
-use Rattle.tagged.specs.declared.fields.Step.TheVariants as Step
 use Rattle.tagged.specs.Fields.{field_bytes, all_bytes_of, open_of, Body, further, field_by, many, read_placed, unplaced, placed_by}
 use Rattle.tagged.proofs.ByteLaws.{bytes-two, bytes_drop, bytes_take, two_back}
 use Rattle.tagged.proofs.SortLaws.{sort-back, tag_back}

@@ -12,9 +12,7 @@ use Rattle.tagged.specs.Choice.{choose}
 use Rattle.tagged.specs.Sorts.{sort_of}
 use Rattle.tagged.specs.declared.sorts.Sort.{Sort}
 use Rattle.tagged.specs.declared.fields.Opened.{Opened}
-use Rattle.tagged.specs.declared.fields.Opened.TheVariants as Opened
 use Rattle.tagged.specs.declared.fields.Step.{Step}
-use Rattle.tagged.specs.declared.fields.Step.TheVariants as Step
 use Rattle.tagged.specs.Fields.{open_of, Stepper, further, many_from, many, Placed, on_field, read_from, read_placed, unplaced}
 use Rattle.tagged.proofs.ByteLaws.{rest}
 use Rattle.tagged.proofs.FieldLaws.{Whole, whole_open}

@@ -12,9 +12,7 @@ use Rattle.tagged.specs.Answers.{number_of}
 use Rattle.tagged.specs.Refusals.{first_broken, or_else, found_if, refused_at, first_refusal, lower_refusal}
 use Rattle.tagged.specs.declared.answers.Rule.{Rule}
 use Rattle.tagged.specs.declared.answers.Answer.{Answer}
-use Rattle.tagged.specs.declared.answers.Answer.TheVariants as Answer
 use Rattle.tagged.specs.declared.answers.Found.{Found}
-use Rattle.tagged.specs.declared.answers.Found.TheVariants as Found
 use Rattle.tagged.proofs.RefusalLaws.{Rising, done, rise, FirstRule, here, later, refused-first}
 
 -- acceptance, on either side, changes nothing

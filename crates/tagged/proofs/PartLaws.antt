@@ -5,13 +5,11 @@ use Prim.Native.Nat.{ℕ, zero, suc, ◌+◌, ◌-◌, ◌≤◌}
 use native.Mathlib.Omega.{arith}
 use lib.ListN.{length, take, drop, length-take, length-drop}
 use Rattle.tagged.specs.Fields.{size_of, passed_bytes}
-use Rattle.tagged.specs.Declarations.{Declaration, name_of, fixed_bytes, declaration_in, declarations_step, next_in, declarations_at}
+use Rattle.tagged.specs.Declarations.{name_of, fixed_bytes, declaration_in, declarations_step, next_in, declarations_at}
 use Rattle.tagged.specs.Parts.{first_name, name_in}
 use Rattle.tagged.specs.declared.sorts.DeclarationSort.{DeclarationSort}
 use Rattle.tagged.specs.declared.declarations.Next.{Next}
-use Rattle.tagged.specs.declared.declarations.Next.TheVariants as Next
 use Rattle.tagged.specs.declared.fields.Step.{Step}
-use Rattle.tagged.specs.declared.fields.Step.TheVariants as Step
 use Rattle.tagged.proofs.ByteLaws.{rest}
 use Rattle.tagged.proofs.DeclarationLaws.{name_in_lem, next-whole}
 use Rattle.tagged.proofs.DeclarationWalks.{here-placed, here-ended}

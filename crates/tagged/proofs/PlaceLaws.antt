@@ -11,7 +11,6 @@ use borrow.Author.Tests.{ltb-true, ltb-false}
 use Rattle.tagged.specs.Fields.{Placed, placed_by, all_bytes_of}
 use Rattle.tagged.specs.Refusals.{first_broken}
 use Rattle.tagged.specs.declared.answers.Found.{Found}
-use Rattle.tagged.specs.declared.answers.Found.TheVariants as Found
 use Rattle.tagged.specs.Stands.{Stands, first, next}
 use Rattle.tagged.proofs.RefusalLaws.{nowhere-passes, passes-nowhere, FirstBreak, at_first}
 

@@ -13,9 +13,7 @@ use Rattle.tagged.specs.Refusals.{first_broken, or_else, refused_at, first_refus
 use Rattle.tagged.specs.Answers.{number_of}
 use Rattle.tagged.specs.declared.answers.Rule.{Rule}
 use Rattle.tagged.specs.declared.answers.Answer.{Answer}
-use Rattle.tagged.specs.declared.answers.Answer.TheVariants as Answer
 use Rattle.tagged.specs.declared.answers.Found.{Found}
-use Rattle.tagged.specs.declared.answers.Found.TheVariants as Found
 use Rattle.tagged.specs.Stands.{Stands, first, next}
 
 -- a place is not nowhere, and a refusal is not acceptance

@@ -11,11 +11,8 @@ use Rattle.tagged.specs.Bytes.{AllBytes}
 use Rattle.tagged.specs.Sorts.{tag_of, is_sort}
 use Rattle.tagged.specs.declared.sorts.Sort.{Sort}
 use Rattle.tagged.specs.declared.fields.Opened.{Opened}
-use Rattle.tagged.specs.declared.fields.Opened.TheVariants as Opened
 use Rattle.tagged.specs.declared.fields.Step.{Step}
-use Rattle.tagged.specs.declared.fields.Step.TheVariants as Step
 use Rattle.tagged.specs.declared.fields.Judged.{Judged}
-use Rattle.tagged.specs.declared.fields.Judged.TheVariants as Judged
 use Rattle.tagged.specs.Fields.{field_bytes, all_bytes_of, open_of, Body, field_by, ended, many, any_sort, until_end, read_placed, unplaced, placed_by}
 use Rattle.tagged.proofs.ByteLaws.{bytes_drop, bytes_take, two-lt}
 use Rattle.tagged.proofs.FieldLaws.{Whole, open-whole}

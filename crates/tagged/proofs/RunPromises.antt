@@ -9,7 +9,6 @@ use Rattle.tagged.specs.Rows.{row_answer}
 use Rattle.tagged.specs.Runs.{run_answer_of, row_left}
 use Rattle.tagged.specs.declared.answers.Rule.{Rule}
 use Rattle.tagged.specs.declared.answers.Answer.{Answer}
-use Rattle.tagged.specs.declared.answers.Answer.TheVariants as Answer
 
 module _ (answer : Answer) (widths row next : List ℕ) (cycle : Outcome (List ℕ)) (first : Answer) (answered : first ≡ answer) where
   abbrev Kept : Answer → List ℕ → Type 0

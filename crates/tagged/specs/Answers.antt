@@ -1,11 +1,8 @@
 -- Answers: the numbers of document 01 for each case, and the values in which C gets them.
 use Rattle.std.specs.Prelude.{ℕ, cond, List, ◌≡◌, eqb}
 use Rattle.tagged.specs.declared.answers.Rule.{Rule}
-use Rattle.tagged.specs.declared.answers.Rule.TheVariants as Rule
 use Rattle.tagged.specs.declared.answers.Answer.{Answer}
-use Rattle.tagged.specs.declared.answers.Answer.TheVariants as Answer
 use Rattle.tagged.specs.declared.answers.Translation.{Translation}
-use Rattle.tagged.specs.declared.answers.Translation.TheVariants as Translation
 use Rattle.tagged.specs.declared.answers.Reply.{Reply}
 
 -- the table of refusals: the number of each, in the order in which they are looked for

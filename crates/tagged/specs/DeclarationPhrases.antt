@@ -6,7 +6,6 @@ use Rattle.tagged.specs.Limits.{longest_name, most_variables}
 use Rattle.tagged.specs.Names.{is_digit, is_name_byte}
 use Rattle.tagged.specs.Declarations.{Declaration, register, width_of, name_of}
 use Rattle.tagged.specs.declared.answers.Rule.{Rule}
-use Rattle.tagged.specs.declared.answers.Rule.TheVariants as Rule
 
 -- width 0 or over 32
 pub data NoWidth (w : ℕ) : Type 0 where

@@ -8,16 +8,11 @@ use Rattle.tagged.specs.Fields.{Stepper, Body, field_by, fixed_then, any_bytes, 
 use Rattle.tagged.specs.Names.{is_name, same_name}
 use Rattle.tagged.specs.Refusals.{first_broken, first_refusal}
 use Rattle.tagged.specs.declared.sorts.DeclarationSort.{DeclarationSort}
-use Rattle.tagged.specs.declared.sorts.DeclarationSort.TheVariants as DeclarationSort
 use Rattle.tagged.specs.declared.sorts.Sort.{Sort}
-use Rattle.tagged.specs.declared.sorts.Sort.TheVariants as Sort
 use Rattle.tagged.specs.declared.declarations.Next.{Next}
-use Rattle.tagged.specs.declared.declarations.Next.TheVariants as Next
 use Rattle.tagged.specs.declared.declarations.VariableTable.{VariableTable}
 use Rattle.tagged.specs.declared.fields.Judged.{Judged}
-use Rattle.tagged.specs.declared.fields.Judged.TheVariants as Judged
 use Rattle.tagged.specs.declared.answers.Rule.{Rule}
-use Rattle.tagged.specs.declared.answers.Rule.TheVariants as Rule
 use Rattle.tagged.specs.declared.answers.Found.{Found}
 use Rattle.tagged.specs.declared.answers.Answer.{Answer}
 

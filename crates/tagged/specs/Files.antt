@@ -4,7 +4,6 @@ use Rattle.tagged.specs.Limits.{shortest_file}
 use Rattle.tagged.specs.Fields.{size_of}
 use Rattle.tagged.specs.declared.answers.Rule.TheVariants as Rule
 use Rattle.tagged.specs.declared.answers.Answer.{Answer}
-use Rattle.tagged.specs.declared.answers.Answer.TheVariants as Answer
 
 -- a file of 3 bytes to the longest
 abbrev pub length_fits : ℕ → List ℕ → Bool

@@ -2,19 +2,12 @@
 use Rattle.std.specs.Prelude.{ℕ, cond, ◌&&◌, leb}
 use Rattle.tagged.specs.Limits.{deepest, most_cells, longest_name, most_variables, most_processes, longest_module, longest_netlist, shortest_file}
 use Rattle.tagged.specs.declared.limits.DepthMade.{DepthMade}
-use Rattle.tagged.specs.declared.limits.DepthMade.TheVariants as DepthMade
 use Rattle.tagged.specs.declared.limits.CellsMade.{CellsMade}
-use Rattle.tagged.specs.declared.limits.CellsMade.TheVariants as CellsMade
 use Rattle.tagged.specs.declared.limits.NameMade.{NameMade}
-use Rattle.tagged.specs.declared.limits.NameMade.TheVariants as NameMade
 use Rattle.tagged.specs.declared.limits.VariablesMade.{VariablesMade}
-use Rattle.tagged.specs.declared.limits.VariablesMade.TheVariants as VariablesMade
 use Rattle.tagged.specs.declared.limits.ProcessesMade.{ProcessesMade}
-use Rattle.tagged.specs.declared.limits.ProcessesMade.TheVariants as ProcessesMade
 use Rattle.tagged.specs.declared.limits.ModuleFileMade.{ModuleFileMade}
-use Rattle.tagged.specs.declared.limits.ModuleFileMade.TheVariants as ModuleFileMade
 use Rattle.tagged.specs.declared.limits.NetlistFileMade.{NetlistFileMade}
-use Rattle.tagged.specs.declared.limits.NetlistFileMade.TheVariants as NetlistFileMade
 
 -- a depth of at most 32, or a refusal
 abbrev pub made_depth : ℕ → DepthMade

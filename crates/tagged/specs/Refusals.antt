@@ -4,13 +4,9 @@ use Rattle.tagged.specs.Choice.{choose}
 use Rattle.tagged.specs.Answers.{number_of}
 use Rattle.tagged.specs.Fields.{Placed}
 use Rattle.tagged.specs.declared.answers.Rule.{Rule}
-use Rattle.tagged.specs.declared.answers.Rule.TheVariants as Rule
 use Rattle.tagged.specs.declared.answers.Answer.{Answer}
-use Rattle.tagged.specs.declared.answers.Answer.TheVariants as Answer
 use Rattle.tagged.specs.declared.answers.Found.{Found}
-use Rattle.tagged.specs.declared.answers.Found.TheVariants as Found
 use Rattle.tagged.specs.declared.fields.Step.{Step}
-use Rattle.tagged.specs.declared.fields.Step.TheVariants as Step
 
 -- the place of the first element that breaks a rule, given those before it
 unfoldable pub first_broken : {A : Type 0} → (List A → A → Bool) → List A → List (Placed A) → Found

@@ -5,7 +5,6 @@ use Rattle.tagged.specs.Bytes.{four_bytes, four_of}
 use Rattle.tagged.specs.Fields.{all_bytes_of}
 use Rattle.tagged.specs.declared.answers.Rule.TheVariants as Rule
 use Rattle.tagged.specs.declared.answers.Answer.{Answer}
-use Rattle.tagged.specs.declared.answers.Answer.TheVariants as Answer
 
 -- a row's bytes
 abbrev pub row_bytes : List ℕ → List ℕ

@@ -4,7 +4,6 @@ use Rattle.words.specs.Values.{Outcome, stopped, got}
 use Rattle.tagged.specs.Refusals.{after_answer}
 use Rattle.tagged.specs.Rows.{row_bytes, row_answer}
 use Rattle.tagged.specs.declared.answers.Answer.{Answer}
-use Rattle.tagged.specs.declared.answers.Answer.TheVariants as Answer
 
 -- the answer of a run, from that of its file, the widths of its variables, the row that is read and the length of the one that is written
 unfoldable pub run_answer_of : Answer → List ℕ → List ℕ → ℕ → Answer

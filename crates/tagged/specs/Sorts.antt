@@ -4,17 +4,11 @@ use Rattle.tagged.specs.Choice.{in_range}
 use Rattle.words.specs.declared.OneOperand.TheVariants as one
 use Rattle.words.specs.declared.TwoOperand.TheVariants as two
 use Rattle.tagged.specs.declared.sorts.DeclarationSort.{DeclarationSort}
-use Rattle.tagged.specs.declared.sorts.DeclarationSort.TheVariants as DeclarationSort
 use Rattle.tagged.specs.declared.sorts.Kind.{Kind}
-use Rattle.tagged.specs.declared.sorts.Kind.TheVariants as Kind
 use Rattle.tagged.specs.declared.sorts.StatementSort.{StatementSort}
-use Rattle.tagged.specs.declared.sorts.StatementSort.TheVariants as StatementSort
 use Rattle.tagged.specs.declared.sorts.ExpressionSort.{ExpressionSort}
-use Rattle.tagged.specs.declared.sorts.ExpressionSort.TheVariants as ExpressionSort
 use Rattle.tagged.specs.declared.sorts.CellSort.{CellSort}
-use Rattle.tagged.specs.declared.sorts.CellSort.TheVariants as CellSort
 use Rattle.tagged.specs.declared.sorts.Sort.{Sort}
-use Rattle.tagged.specs.declared.sorts.Sort.TheVariants as Sort
 
 -- which declaration, within 02 and 03
 unfoldable pub declaration_sort : ℕ → DeclarationSort

@@ -1,9 +1,7 @@
 -- `words::inverted` meets its contract, since a remainder is below two to the width, which is positive and within 32 bits. Assumes nothing.
 use native.Mathlib.Nat.{mod-lt}
 use native.Mathlib.Omega.{arith}
-use borrow.Author.Rules.{rules}
-use lib.Pow.{pow_pos, pow_mono}
-use Rattle.words.specs.Limits.{greatest_width}
+use lib.Pow.{pow_pos}
 use Rattle.words.specs.Bits.{inverted}
 use Rattle.words.proofs.inverted.Goals as goal
 

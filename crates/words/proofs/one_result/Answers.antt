@@ -1,5 +1,4 @@
 -- `words::one_result` meets its contract: each arm applies the definition to the test that led to it. Assumes nothing.
-use borrow.Author.Rules.{rules}
 use borrow.Author.Tests.{le-leb, lt-leb}
 use Rattle.words.specs.Results.{one_result}
 use Rattle.words.proofs.one_result.Goals as goal

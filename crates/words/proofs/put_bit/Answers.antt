@@ -4,7 +4,6 @@ use mathlib.Core.Path.{◌≡◌}
 use Prim.Native.Nat.{ℕ, ◌+◌, ◌-◌, ◌*◌, ◌%◌, ◌^◌, ◌≤◌, ◌<◌}
 use native.Mathlib.Nat.{lt_of_lt_of_le}
 use native.Mathlib.Omega.{arith}
-use borrow.Author.Rules.{rules}
 use lib.Pow.{pow_mono, shl_lt}
 use Rattle.words.specs.Limits.{greatest_width}
 use Rattle.words.specs.Bits.{bit, put_bit}

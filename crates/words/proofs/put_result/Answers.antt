@@ -1,5 +1,4 @@
 -- `words::put_result` meets its contract: each arm applies the definition to the tests that led to it. Assumes nothing.
-use borrow.Author.Rules.{rules}
 use borrow.Author.Tests.{lt-ltb, le-ltb}
 use Rattle.words.specs.Results.{put_result}
 use Rattle.words.proofs.put_result.Goals as goal

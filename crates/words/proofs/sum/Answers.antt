@@ -1,10 +1,6 @@
 -- `words::sum` meets its contract, since a remainder of two to a width stays within 32 bits. Assumes nothing.
-use Prim.Native.Nat.{◌+◌}
-use native.Mathlib.Nat.{mod-lt}
 use native.Mathlib.Omega.{arith}
-use borrow.Author.Rules.{rules}
-use lib.Pow.{pow_pos, pow_mono}
-use Rattle.words.specs.Limits.{greatest_width}
+use lib.Pow.{pow_pos}
 use Rattle.words.specs.Bits.{sum}
 use Rattle.words.proofs.sum.Goals as goal
 

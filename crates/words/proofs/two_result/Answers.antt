@@ -1,5 +1,4 @@
 -- `words::two_result` meets its contract: each arm applies the definition to the test that led to it. Assumes nothing.
-use borrow.Author.Rules.{rules}
 use borrow.Author.Tests.{le-leb, lt-leb}
 use Rattle.words.specs.Results.{two_result}
 use Rattle.words.proofs.two_result.Goals as goal

@@ -1,7 +1,6 @@
 -- `tagged::bytes::byte_at` meets its contract: past the end the list gives 0. Assumes nothing.
 use mathlib.Core.Path.{sym}
 use lib.ListN.{get_or-eq_default}
-use borrow.Author.Rules.{rules}
 use Rattle.tagged.proofs.bytes.byte_at.Goals as goal
 
 pub returns-else-index-part : goal.returns-else-index-part

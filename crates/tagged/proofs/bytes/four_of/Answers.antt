@@ -1,6 +1,5 @@
 -- `tagged::bytes::four_of` meets its contract: the four bytes are those that the list has. Assumes nothing.
 use Rattle.tagged.specs.Bytes.{four_of}
-use borrow.Author.Rules.{rules}
 use Rattle.tagged.proofs.bytes.four_of.Goals as goal
 
 pub returns : goal.returns

@@ -3,7 +3,6 @@ use mathlib.Core.Path.{sym}
 use native.Mathlib.Omega.{arith}
 use lib.ListN.{drop_of_length-le}
 use Rattle.tagged.proofs.ByteLaws.{rest}
-use borrow.Author.Rules.{rules}
 use Rattle.tagged.proofs.bytes.from.Goals as goal
 
 pub returns-then-start-part : goal.returns-then-start-part

@@ -5,7 +5,6 @@ use native.Mathlib.Nat.{sub-zero}
 use lib.ListN.{take}
 use lib.Seq.{take_all}
 use Prim.Native.Nat.{ℕ}
-use borrow.Author.Rules.{rules}
 use Rattle.tagged.proofs.bytes.front.Goals as goal
 
 pub returns-then-end-part : goal.returns-then-end-part

@@ -1,7 +1,6 @@
 -- `tagged::bytes::put_four` meets its contract: one writing after the other. Assumes nothing.
 use Rattle.tagged.specs.Bytes.{four_bytes}
 use Rattle.tagged.proofs.WriteLaws.{wrote_then}
-use borrow.Author.Rules.{rules}
 use Rattle.tagged.proofs.bytes.put_four.Goals as goal
 
 pub returns : goal.returns

@@ -1,7 +1,6 @@
 -- `tagged::bytes::put_two` meets its contract: one writing after the other. Assumes nothing.
 use Rattle.tagged.specs.Bytes.{two_bytes}
 use Rattle.tagged.proofs.WriteLaws.{wrote_then}
-use borrow.Author.Rules.{rules}
 use Rattle.tagged.proofs.bytes.put_two.Goals as goal
 
 pub returns : goal.returns

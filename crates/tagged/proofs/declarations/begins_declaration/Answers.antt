@@ -2,7 +2,6 @@
 use mathlib.Core.Path.{sym, ap, ◌∙◌}
 use Rattle.tagged.specs.Sorts.{is_declaration}
 use Rattle.tagged.proofs.DeclarationLaws.{not-declaration}
-use borrow.Author.Rules.{rules}
 use Rattle.tagged.proofs.declarations.begins_declaration.Goals as goal
 
 pub returns-in-Declaration : goal.returns-in-Declaration

@@ -6,7 +6,6 @@ use lib.Dec.{leb}
 use borrow.Author.Tests.{leb-true, leb-false, le-leb, lt-leb}
 use Rattle.tagged.specs.Limits.{most_variables}
 use Rattle.tagged.proofs.ChoiceLaws.{first_taken, second-taken}
-use borrow.Author.Rules.{rules}
 use Rattle.tagged.proofs.declarations.count_broken.Goals as goal
 
 pub returns-in-Good : goal.returns-in-Good

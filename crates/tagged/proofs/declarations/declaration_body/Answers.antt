@@ -3,7 +3,6 @@ use mathlib.Core.Path.{sym, ap, ◌∙◌}
 use native.Mathlib.Omega.{arith}
 use Rattle.tagged.specs.Declarations.{declaration_body}
 use Rattle.tagged.proofs.DeclarationLaws.{not-declaration, other-sort, body-short, body-fine}
-use borrow.Author.Rules.{rules}
 use Rattle.tagged.proofs.declarations.declaration_body.Goals as goal
 
 pub returns-then-payload-fixed : goal.returns-then-payload-fixed

@@ -2,7 +2,6 @@
 use mathlib.Core.Path.{sym, ◌∙◌}
 use Rattle.tagged.specs.Declarations.{declaration_breaks, declarations_in}
 use Rattle.tagged.proofs.DeclarationLaws.{count-taken, other-rule}
-use borrow.Author.Rules.{rules}
 use Rattle.tagged.proofs.declarations.declaration_breaks.Goals as goal
 
 pub returns-in-Value : goal.returns-in-Value

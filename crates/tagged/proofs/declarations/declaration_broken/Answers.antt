@@ -1,13 +1,11 @@
 -- `tagged::declarations::declaration_broken` meets its contract: what is passed breaks nothing, so the whole is as the rest. Assumes nothing.
-use mathlib.Core.Path.{◌≡◌, sym, ap, ◌∙◌}
-use mathlib.Core.List.{[]}
-use Prim.Native.Nat.{◌+◌, ◌-◌, ◌≤◌}
+use mathlib.Core.Path.{sym, ap, ◌∙◌}
+use Prim.Native.Nat.{◌+◌}
 use native.Mathlib.Nat.{add-zero}
 use native.Mathlib.Omega.{arith}
-use lib.ListN.{length, take, drop}
-use Rattle.tagged.specs.Refusals.{first_broken}
-use Rattle.tagged.specs.Declarations.{declaration_in, declarations_in, declarations_at, declaration_breaks}
-use Rattle.tagged.proofs.DeclarationWalks.{here-within, here-more, here-placed, here-ended, Walked, walked_start, walked_more, walked-before, broken-none, broken-here, broken-later}
+use lib.ListN.{take}
+use Rattle.tagged.specs.Declarations.{declaration_in, declarations_in, declaration_breaks}
+use Rattle.tagged.proofs.DeclarationWalks.{here-within, here-more, here-placed, here-ended, walked_start, walked_more, walked-before, broken-none, broken-here, broken-later}
 use borrow.Author.Rules.{rules}
 use Rattle.tagged.proofs.declarations.declaration_broken.Goals as goal
 

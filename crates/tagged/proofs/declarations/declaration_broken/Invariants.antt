@@ -1,13 +1,10 @@
-use mathlib.Core.Path.{◌≡◌, sym, ap, ◌∙◌}
+use mathlib.Core.Path.{◌≡◌}
 use mathlib.Core.List.{[]}
 use Prim.Native.Nat.{◌+◌, ◌-◌, ◌≤◌}
-use native.Mathlib.Nat.{add-zero}
-use native.Mathlib.Omega.{arith}
 use lib.ListN.{length, take, drop}
 use Rattle.tagged.specs.Refusals.{first_broken}
-use Rattle.tagged.specs.Declarations.{declaration_in, declarations_in, declarations_at, declaration_breaks}
-use Rattle.tagged.proofs.DeclarationWalks.{here-within, here-more, here-placed, here-ended, Walked, walked_start, walked_more, walked-before, broken-none, broken-here, broken-later}
-use borrow.Author.Rules.{rules}
+use Rattle.tagged.specs.Declarations.{declarations_in, declarations_at, declaration_breaks}
+use Rattle.tagged.proofs.DeclarationWalks.{Walked}
 use Rattle.tagged.proofs.declarations.declaration_broken.Given as goal
 
 abbrev pub invariant-loop-sort : goal.invariant-loop-sort

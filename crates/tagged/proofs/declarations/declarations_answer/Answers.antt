@@ -1,7 +1,6 @@
 -- `tagged::declarations::declarations_answer` meets its contract: the first of the three rules that has a place is refused. Assumes nothing.
 use mathlib.Core.Path.{sym, ◌∙◌}
 use Rattle.tagged.specs.Refusals.{first_refusal}
-use borrow.Author.Rules.{rules}
 use Rattle.tagged.proofs.declarations.declarations_answer.Goals as goal
 
 pub returns-in-At : goal.returns-in-At

@@ -1,7 +1,6 @@
 -- `tagged::declarations::declared_bytes` meets its contract: the step that was taken says how many. Assumes nothing.
 use mathlib.Core.Path.{sym, ap, ◌∙◌}
 use Rattle.tagged.specs.Fields.{passed_bytes}
-use borrow.Author.Rules.{rules}
 use Rattle.tagged.proofs.declarations.declared_bytes.Goals as goal
 
 pub returns-in-Past : goal.returns-in-Past

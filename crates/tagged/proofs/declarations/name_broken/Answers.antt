@@ -2,7 +2,6 @@
 use mathlib.Core.Path.{sym, ap, ◌∙◌}
 use lib.ListN.{drop}
 use Rattle.tagged.proofs.DeclarationLaws.{name_in_lem, name-good, name-bad}
-use borrow.Author.Rules.{rules}
 use Rattle.tagged.proofs.declarations.name_broken.Goals as goal
 
 pub returns-then-is_name : goal.returns-then-is_name

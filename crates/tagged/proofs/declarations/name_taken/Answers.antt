@@ -1,9 +1,8 @@
 -- `tagged::declarations::name_taken` meets its contract: what is passed has other names, so the whole is as the rest. Assumes nothing.
-use mathlib.Core.Path.{◌≡◌, refl, ◌∙◌}
-use Prim.Native.Nat.{◌+◌, ◌≤◌}
+use mathlib.Core.Path.{refl, ◌∙◌}
+use Prim.Native.Nat.{◌+◌}
 use native.Mathlib.Omega.{arith}
-use lib.ListN.{length, drop, take}
-use Rattle.tagged.specs.Declarations.{declarations_in, name_taken}
+use lib.ListN.{drop, take}
 use Rattle.tagged.proofs.DeclarationWalks.{here-within, here-more, here-none, taken-done, taken_none, taken_here, taken-later, name-tested}
 use borrow.Author.Rules.{rules}
 use Rattle.tagged.proofs.declarations.name_taken.Goals as goal

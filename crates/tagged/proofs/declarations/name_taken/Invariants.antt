@@ -1,10 +1,7 @@
-use mathlib.Core.Path.{◌≡◌, refl, ◌∙◌}
-use Prim.Native.Nat.{◌+◌, ◌≤◌}
-use native.Mathlib.Omega.{arith}
+use mathlib.Core.Path.{◌≡◌}
+use Prim.Native.Nat.{◌≤◌}
 use lib.ListN.{length, drop, take}
 use Rattle.tagged.specs.Declarations.{declarations_in, name_taken}
-use Rattle.tagged.proofs.DeclarationWalks.{here-within, here-more, here-none, taken-done, taken_none, taken_here, taken-later, name-tested}
-use borrow.Author.Rules.{rules}
 use Rattle.tagged.proofs.declarations.name_taken.Given as goal
 
 abbrev pub invariant-loop-left : goal.invariant-loop-left

@@ -2,7 +2,6 @@
 use mathlib.Core.Path.{sym}
 use Rattle.tagged.specs.Declarations.{next_in}
 use Rattle.tagged.proofs.DeclarationLaws.{not-declaration, other-sort}
-use borrow.Author.Rules.{rules}
 use Rattle.tagged.proofs.declarations.next_declaration.Goals as goal
 
 pub returns-in-Declaration : goal.returns-in-Declaration

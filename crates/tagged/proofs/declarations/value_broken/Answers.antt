@@ -5,7 +5,6 @@ use native.Mathlib.Omega.{arith}
 use Rattle.words.specs.Widths.{is_width}
 use Rattle.tagged.proofs.ChoiceLaws.{first_taken, second-taken}
 use Rattle.tagged.proofs.DeclarationLaws.{broken-width, fine-input, fine-register}
-use borrow.Author.Rules.{rules}
 use Rattle.tagged.proofs.declarations.value_broken.Goals as goal
 
 pub returns-in-Refused : goal.returns-in-Refused

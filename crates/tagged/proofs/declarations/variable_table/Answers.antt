@@ -1,12 +1,11 @@
 -- `tagged::declarations::variable_table` meets its contract: the table so far, filled with the rest of the list, is the list's. Assumes nothing.
-use mathlib.Core.Path.{◌≡◌, sym, ap, ◌∙◌}
-use Prim.Native.Nat.{◌-◌, ◌≤◌}
+use mathlib.Core.Path.{sym, ap, ◌∙◌}
 use native.Mathlib.Omega.{arith}
-use lib.ListN.{length, get_or, drop}
-use Rattle.tagged.specs.Declarations.{declarations_in, variable_table, register_mark}
+use lib.ListN.{get_or}
+use Rattle.tagged.specs.Declarations.{declarations_in, register_mark}
 use Rattle.tagged.proofs.DeclarationLaws.{width-in, sort-in}
 use Rattle.tagged.proofs.DeclarationWalks.{here-within, here-more, here-none}
-use Rattle.tagged.proofs.TableLaws.{extend, extend-start, extend-more, extend-done, with-count}
+use Rattle.tagged.proofs.TableLaws.{extend-start, extend-more, extend-done, with-count}
 use borrow.Author.Rules.{rules}
 use Rattle.tagged.proofs.declarations.variable_table.Goals as goal
 

@@ -1,12 +1,8 @@
-use mathlib.Core.Path.{◌≡◌, sym, ap, ◌∙◌}
+use mathlib.Core.Path.{◌≡◌}
 use Prim.Native.Nat.{◌-◌, ◌≤◌}
-use native.Mathlib.Omega.{arith}
-use lib.ListN.{length, get_or, drop}
-use Rattle.tagged.specs.Declarations.{declarations_in, variable_table, register_mark}
-use Rattle.tagged.proofs.DeclarationLaws.{width-in, sort-in}
-use Rattle.tagged.proofs.DeclarationWalks.{here-within, here-more, here-none}
-use Rattle.tagged.proofs.TableLaws.{extend, extend-start, extend-more, extend-done, with-count}
-use borrow.Author.Rules.{rules}
+use lib.ListN.{length, drop}
+use Rattle.tagged.specs.Declarations.{declarations_in, variable_table}
+use Rattle.tagged.proofs.TableLaws.{extend}
 use Rattle.tagged.proofs.declarations.variable_table.Given as goal
 
 abbrev pub invariant-loop-table : goal.invariant-loop-table

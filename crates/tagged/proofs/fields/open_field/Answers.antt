@@ -1,7 +1,6 @@
 -- `tagged::fields::open_field` meets its contract: each answer cites the law of its case, with the tests that led to it. Assumes nothing.
 use mathlib.Core.Path.{sym}
 use native.Mathlib.Omega.{arith}
-use borrow.Author.Rules.{rules}
 use Rattle.tagged.proofs.FieldLaws.{open_none, open-cut, open-beyond, whole_open}
 use Rattle.tagged.proofs.fields.open_field.Goals as goal
 

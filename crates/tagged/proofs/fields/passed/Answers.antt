@@ -1,7 +1,6 @@
 -- `tagged::fields::passed` meets its contract: each arm applies the definition to the judgement that led to it. Assumes nothing.
 use mathlib.Core.Path.{sym, ap}
 use Rattle.tagged.specs.Fields.{passing}
-use borrow.Author.Rules.{rules}
 use Rattle.tagged.proofs.fields.passed.Goals as goal
 
 pub returns-in-Fine : goal.returns-in-Fine

@@ -5,7 +5,6 @@ use native.Mathlib.Omega.{arith}
 use Rattle.tagged.specs.Limits.{longest_netlist}
 use Rattle.tagged.specs.Files.{length_fits, file_answer}
 use Rattle.tagged.proofs.ChoiceLaws.{first_taken, second-taken}
-use borrow.Author.Rules.{rules}
 use Rattle.tagged.proofs.files.netlist_file.Goals as goal
 
 pub returns-in-Good : goal.returns-in-Good

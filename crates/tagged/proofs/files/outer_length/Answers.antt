@@ -3,7 +3,6 @@ use native.Mathlib.Omega.{arith}
 use borrow.Author.Tests.{eq-eqb, ne_eqb}
 use Rattle.tagged.specs.Bytes.{number_of_two}
 use Rattle.tagged.specs.Files.{outer_answer}
-use borrow.Author.Rules.{rules}
 use Rattle.tagged.proofs.files.outer_length.Goals as goal
 
 pub overflow_add-number_of_two : goal.overflow_add-number_of_two

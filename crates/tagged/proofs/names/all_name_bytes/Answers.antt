@@ -1,9 +1,6 @@
 -- `tagged::names::all_name_bytes` meets its contract: what is passed by is fine, so the whole is as the rest. Assumes nothing.
-use mathlib.Core.Path.{◌≡◌, refl, sym, ◌∙◌}
-use Prim.Native.Nat.{◌-◌, ◌≤◌}
+use mathlib.Core.Path.{refl, sym, ◌∙◌}
 use native.Mathlib.Omega.{arith}
-use lib.ListN.{length, drop}
-use Rattle.tagged.specs.Names.{all_name_bytes}
 use Rattle.tagged.proofs.NameLaws.{bytes-turn, bytes-broken, bytes-done}
 use borrow.Author.Rules.{rules}
 use Rattle.tagged.proofs.names.all_name_bytes.Goals as goal

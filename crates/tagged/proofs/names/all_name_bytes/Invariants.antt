@@ -1,10 +1,7 @@
-use mathlib.Core.Path.{◌≡◌, refl, sym, ◌∙◌}
+use mathlib.Core.Path.{◌≡◌}
 use Prim.Native.Nat.{◌-◌, ◌≤◌}
-use native.Mathlib.Omega.{arith}
 use lib.ListN.{length, drop}
 use Rattle.tagged.specs.Names.{all_name_bytes}
-use Rattle.tagged.proofs.NameLaws.{bytes-turn, bytes-broken, bytes-done}
-use borrow.Author.Rules.{rules}
 use Rattle.tagged.proofs.names.all_name_bytes.Given as goal
 
 abbrev pub invariant-loop-at : goal.invariant-loop-at

@@ -5,7 +5,6 @@ use native.Mathlib.Omega.{arith}
 use lib.ListN.{length}
 use Rattle.tagged.specs.Names.{is_name_length, is_name}
 use Rattle.tagged.proofs.ChoiceLaws.{first_taken, second-taken}
-use borrow.Author.Rules.{rules}
 use Rattle.tagged.proofs.names.is_name.Goals as goal
 
 pub returns-then-is_digit : goal.returns-then-is_digit

@@ -1,9 +1,6 @@
 -- `tagged::names::same_name` meets its contract: what is passed by is equal, so the whole is as the rest. Assumes nothing.
-use mathlib.Core.Path.{◌≡◌, refl, sym}
-use Prim.Native.Nat.{◌-◌, ◌≤◌}
+use mathlib.Core.Path.{refl, sym}
 use native.Mathlib.Omega.{arith}
-use lib.ListN.{length, drop}
-use Rattle.tagged.specs.Names.{same_name}
 use Rattle.tagged.proofs.NameLaws.{same-lengths, same_turn, same-broken, same-done}
 use borrow.Author.Rules.{rules}
 use Rattle.tagged.proofs.names.same_name.Goals as goal

@@ -1,10 +1,7 @@
-use mathlib.Core.Path.{◌≡◌, refl, sym}
+use mathlib.Core.Path.{◌≡◌}
 use Prim.Native.Nat.{◌-◌, ◌≤◌}
-use native.Mathlib.Omega.{arith}
 use lib.ListN.{length, drop}
 use Rattle.tagged.specs.Names.{same_name}
-use Rattle.tagged.proofs.NameLaws.{same-lengths, same_turn, same-broken, same-done}
-use borrow.Author.Rules.{rules}
 use Rattle.tagged.proofs.names.same_name.Given as goal
 
 abbrev pub invariant-loop-at : goal.invariant-loop-at

@@ -1,10 +1,8 @@
 -- `tagged::parts::name_in` meets its contract: what is still to be passed, from here on, leads to the same declaration. Assumes nothing.
-use Prim.Native.Nat.{◌-◌, ◌≤◌}
 use native.Mathlib.Nat.{add-zero}
 use native.Mathlib.Omega.{arith}
-use lib.ListN.{length}
 use Rattle.tagged.proofs.DeclarationWalks.{here-within}
-use Rattle.tagged.proofs.PartLaws.{NameAhead, name-none, name-short, name-here, name-later}
+use Rattle.tagged.proofs.PartLaws.{name-none, name-short, name-here, name-later}
 use borrow.Author.Rules.{rules}
 use Rattle.tagged.proofs.parts.name_in.Goals as goal
 

@@ -1,10 +1,6 @@
 use Prim.Native.Nat.{◌-◌, ◌≤◌}
-use native.Mathlib.Nat.{add-zero}
-use native.Mathlib.Omega.{arith}
 use lib.ListN.{length}
-use Rattle.tagged.proofs.DeclarationWalks.{here-within}
-use Rattle.tagged.proofs.PartLaws.{NameAhead, name-none, name-short, name-here, name-later}
-use borrow.Author.Rules.{rules}
+use Rattle.tagged.proofs.PartLaws.{NameAhead}
 use Rattle.tagged.proofs.parts.name_in.Given as goal
 
 abbrev pub invariant-loop-sort : goal.invariant-loop-sort

@@ -1,13 +1,10 @@
 -- `tagged::rows::read_row` meets its contract: at each turn the numbers read and those still in the row are the row's. Assumes nothing.
-use mathlib.Core.Path.{◌≡◌, refl, ap}
-use mathlib.Core.List.{◌++◌}
-use Prim.Native.Nat.{◌*◌, ◌-◌}
+use mathlib.Core.Path.{refl, ap}
 use native.Mathlib.Nat.{sub-zero}
 use native.Mathlib.Omega.{arith}
-use lib.ListN.{length, take, drop, length-set}
+use lib.ListN.{length, length-set}
 use Rattle.tagged.specs.Rows.{row_numbers}
 use Rattle.tagged.proofs.RowLaws.{read-turn, read_done}
-use borrow.Author.Rules.{rules}
 use Rattle.tagged.proofs.rows.read_row.Goals as goal
 
 pub loop-at-init : goal.loop-at-init

@@ -1,12 +1,8 @@
-use mathlib.Core.Path.{◌≡◌, refl, ap}
+use mathlib.Core.Path.{◌≡◌}
 use mathlib.Core.List.{◌++◌}
 use Prim.Native.Nat.{◌*◌, ◌-◌}
-use native.Mathlib.Nat.{sub-zero}
-use native.Mathlib.Omega.{arith}
-use lib.ListN.{length, take, drop, length-set}
+use lib.ListN.{length, take, drop}
 use Rattle.tagged.specs.Rows.{row_numbers}
-use Rattle.tagged.proofs.RowLaws.{read-turn, read_done}
-use borrow.Author.Rules.{rules}
 use Rattle.tagged.proofs.rows.read_row.Given as goal
 
 abbrev pub invariant-loop-at : goal.invariant-loop-at

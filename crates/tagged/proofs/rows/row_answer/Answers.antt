@@ -1,6 +1,5 @@
 -- `tagged::rows::row_answer` meets its contract: each arm applies the definition to the test that led to it. Assumes nothing.
 use Rattle.tagged.specs.Rows.{row_answer}
-use borrow.Author.Rules.{rules}
 use Rattle.tagged.proofs.rows.row_answer.Goals as goal
 
 pub returns-then-rows_fit : goal.returns-then-rows_fit

@@ -1,11 +1,6 @@
 -- `tagged::rows::rows_fit` meets its contract: with both lengths right, the numbers still to be tested decide at each turn. Assumes nothing.
-use mathlib.Core.Path.{◌≡◌}
-use Prim.Native.Nat.{◌*◌, ◌-◌}
 use native.Mathlib.Omega.{arith}
-use lib.ListN.{length, drop}
-use Rattle.tagged.specs.Rows.{row_numbers, all_fit, rows_fit}
 use Rattle.tagged.proofs.RowLaws.{row-length-off, next-length-off, fits-start, fits-turn, fits-stop, fits-done}
-use borrow.Author.Rules.{rules}
 use Rattle.tagged.proofs.rows.rows_fit.Goals as goal
 
 pub returns-then-row-widths : goal.returns-then-row-widths

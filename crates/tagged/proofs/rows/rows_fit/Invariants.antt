@@ -1,10 +1,7 @@
 use mathlib.Core.Path.{◌≡◌}
 use Prim.Native.Nat.{◌*◌, ◌-◌}
-use native.Mathlib.Omega.{arith}
 use lib.ListN.{length, drop}
 use Rattle.tagged.specs.Rows.{row_numbers, all_fit, rows_fit}
-use Rattle.tagged.proofs.RowLaws.{row-length-off, next-length-off, fits-start, fits-turn, fits-stop, fits-done}
-use borrow.Author.Rules.{rules}
 use Rattle.tagged.proofs.rows.rows_fit.Given as goal
 
 abbrev pub invariant-loop-at : goal.invariant-loop-at

@@ -1,13 +1,9 @@
 -- `tagged::rows::write_row` meets its contract: at each turn the bytes of the values passed are written. Assumes nothing.
-use Prim.Native.Nat.{◌-◌}
 use native.Mathlib.Omega.{arith}
-use lib.ListN.{length, take, length-take}
-use Rattle.tagged.specs.Bytes.{Wrote}
+use lib.ListN.{take, length-take}
 use Rattle.tagged.specs.Fields.{all_bytes_of}
-use Rattle.tagged.specs.Rows.{row_bytes}
 use Rattle.tagged.proofs.WriteLaws.{wrote_none, wrote-length}
 use Rattle.tagged.proofs.RowLaws.{bytes-length, write-turn, write_done}
-use borrow.Author.Rules.{rules}
 use Rattle.tagged.proofs.rows.write_row.Goals as goal
 
 pub loop-at-init : goal.loop-at-init

@@ -1,12 +1,7 @@
 use Prim.Native.Nat.{◌-◌}
-use native.Mathlib.Omega.{arith}
-use lib.ListN.{length, take, length-take}
+use lib.ListN.{length, take}
 use Rattle.tagged.specs.Bytes.{Wrote}
-use Rattle.tagged.specs.Fields.{all_bytes_of}
 use Rattle.tagged.specs.Rows.{row_bytes}
-use Rattle.tagged.proofs.WriteLaws.{wrote_none, wrote-length}
-use Rattle.tagged.proofs.RowLaws.{bytes-length, write-turn, write_done}
-use borrow.Author.Rules.{rules}
 use Rattle.tagged.proofs.rows.write_row.Given as goal
 
 abbrev pub invariant-loop-at : goal.invariant-loop-at

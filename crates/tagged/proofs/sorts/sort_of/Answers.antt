@@ -1,7 +1,6 @@
 -- `tagged::sorts::sort_of` meets its contract: each arm cites the law of its range. Assumes nothing.
 use mathlib.Core.Path.{◌≡◌, sym, ap, ◌∙◌}
 use native.Mathlib.Omega.{arith}
-use borrow.Author.Rules.{rules}
 use Rattle.tagged.specs.Sorts.{sort_of}
 use Rattle.tagged.specs.declared.sorts.Sort.TheVariants as Sort
 use Rattle.tagged.proofs.SortLaws.{sort-declaration, sort-statement, sort-expression, sort-cell, unknown-05, unknown-18, unknown-2B, unknown-high}

@@ -1,5 +1,4 @@
 -- `words::OneOperand::result` meets its contract, by the arm that was taken and what its call ensures. Assumes nothing.
-use borrow.Author.Rules.{rules}
 use Rattle.words.specs.Operators.{one_number}
 use Rattle.words.proofs.OneOperand.result.Goals as goal
 

@@ -1,5 +1,4 @@
 -- `words::OneOperand::result_width` meets its contract, by the arm that was taken. Assumes nothing.
-use borrow.Author.Rules.{rules}
 use Rattle.words.specs.Operators.{one_width}
 use Rattle.words.proofs.OneOperand.result_width.Goals as goal
 

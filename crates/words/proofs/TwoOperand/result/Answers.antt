@@ -1,5 +1,4 @@
 -- `words::TwoOperand::result` meets its contract, by the arm that was taken and what its call ensures. Assumes nothing.
-use borrow.Author.Rules.{rules}
 use Rattle.words.specs.Operators.{two_number}
 use Rattle.words.proofs.TwoOperand.result.Goals as goal
 

@@ -1,5 +1,4 @@
 -- `words::TwoOperand::result_width` meets its contract, by the arm that was taken. Assumes nothing.
-use borrow.Author.Rules.{rules}
 use Rattle.words.specs.Operators.{two_width}
 use Rattle.words.proofs.TwoOperand.result_width.Goals as goal
 

@@ -6,7 +6,6 @@ use lib.Dec.{ltb}
 use borrow.Author.Tests.{lt-ltb, le-ltb}
 use Rattle.tagged.specs.Answers.{number_of}
 use Rattle.tagged.specs.Refusals.{lower_refusal}
-use borrow.Author.Rules.{rules}
 use Rattle.tagged.proofs.answers.Answer.or_lower.Goals as goal
 
 pub returns-in-Accepted-other : goal.returns-in-Accepted-other

@@ -1,6 +1,5 @@
 -- `tagged::answers::Rule::number` meets its contract: each arm applies the table to the rule that led to it. Assumes nothing.
 use mathlib.Core.Path.{sym, ap}
-use borrow.Author.Rules.{rules}
 use Rattle.tagged.specs.Answers.{number_of}
 use Rattle.tagged.proofs.answers.Rule.number.Goals as goal
 

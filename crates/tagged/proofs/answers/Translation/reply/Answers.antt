@@ -1,6 +1,5 @@
 -- `tagged::answers::Translation::reply` meets its contract: each arm applies the definition to the answer that led to it. Assumes nothing.
 use mathlib.Core.Path.{sym, ap, ◌∙◌}
-use borrow.Author.Rules.{rules}
 use Rattle.tagged.specs.Answers.{translation_reply}
 use Rattle.tagged.proofs.answers.Translation.reply.Goals as goal
 
