@@ -13,7 +13,7 @@ use Rattle.tagged.specs.declared.fields.Opened.TheVariants as Opened
 use Rattle.tagged.proofs.FieldLists.{field-more, field-none}
 use Rattle.netlist.specs.declared.Operand.{Operand}
 use Rattle.netlist.specs.declared.Cell.{Cell}
-use Rattle.verilog.proofs.FormLaws.{Among, but_branch, not-branch}
+use Rattle.verilog.proofs.FormLaws.{not-branch}
 use Rattle.translate_blocks.specs.Words.{Written}
 use Rattle.translate_blocks.specs.Writing.{Translator, untouched}
 use Rattle.translate_blocks.specs.Log.{Mark, log_entries, Forward, onward, arrived, equal_cell, mark_of, forward_items}
@@ -47,10 +47,10 @@ module _ (l : List ℕ) (at : ℕ) (opened : Opened) (found : opened ≡ open_of
   forward-none x e = onward-ended cells marks table ∙ rw (field-none l at opened found 0 x e) at going
 
   module _ (s : Sort) (size : ℕ) (e : opened ≡ Opened.Field s size) where
-    pub forward-other : Among but_branch s → record { cells = cells; marks = marks; table = table } ≡ last
+    pub forward-other : (s ≡ Sort.Item → ⊥) → (s ≡ Sort.Block → ⊥) → record { cells = cells; marks = marks; table = table } ≡ last
     unfolding forward_items
-    forward-other k =
-        onward-ended cells marks table ∙ ap (onward cells marks) (sym (not-branch s _ _ (arrived (untouched table)) k))
+    forward-other no_item no_block =
+        onward-ended cells marks table ∙ ap (onward cells marks) (sym (not-branch s _ _ (arrived (untouched table)) no_item no_block))
         ∙ rw (field-more l at opened found 0 s size e) at going
 
     module _ (p : List ℕ) (q : p ≡ take size (drop (at + 3) l)) where

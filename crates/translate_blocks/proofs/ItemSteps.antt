@@ -15,7 +15,6 @@ use Rattle.tagged.proofs.FieldLists.{field-within}
 use Rattle.netlist.specs.declared.Operand.{Operand}
 use Rattle.netlist.specs.declared.Cell.{Cell}
 use Rattle.netlist.specs.declared.Cell.TheVariants as Cell
-use Rattle.verilog.proofs.FormLaws.{Among, but_branch}
 use Rattle.translate_blocks.specs.Words.{Written}
 use Rattle.translate_blocks.specs.Writing.{Emits, item_operand, write_item, write_block, LogKept, Translates, Room}
 use Rattle.translate_blocks.specs.Log.{changes, changes_of, Mark, log_entries, Forward, onward, equal_cell, mark_of, forward_items, backward_items, Filed, Forwards, Marks}
@@ -80,8 +79,8 @@ module _ {count d : ℕ} {selector : Operand} {l entry out₀ : List ℕ} {at₀
     items-none {x} e = ended (forward-none l index opened found (write_item count d) (write_block count d) selector entry n g.cells g.marks _ g.whole x e)
 
     module _ {s : Sort} {size : ℕ} (e : opened ≡ Opened.Field s size) where
-      pub items-other : Among but_branch s → Forwards (forward count d selector entry l 0 n₀) out₀ at₀ n₀ slots₀ words₀ bottom out at n table slots words top
-      items-other k = ended (forward-other l index opened found (write_item count d) (write_block count d) selector entry n g.cells g.marks _ g.whole s size e k)
+      pub items-other : (s ≡ Sort.Item → ⊥) → (s ≡ Sort.Block → ⊥) → Forwards (forward count d selector entry l 0 n₀) out₀ at₀ n₀ slots₀ words₀ bottom out at n table slots words top
+      items-other no_item no_block = ended (forward-other l index opened found (write_item count d) (write_block count d) selector entry n g.cells g.marks _ g.whole s size e no_item no_block)
 
       module _ {p : List ℕ} (payload : p ≡ take size (drop (index + 3) l)) where
         payload-size : length p ≤ size

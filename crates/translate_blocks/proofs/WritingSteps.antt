@@ -24,7 +24,7 @@ use Rattle.netlist.specs.declared.Operand.TheVariants as Operand
 use Rattle.netlist.specs.declared.Cell.{Cell}
 use Rattle.netlist.specs.declared.Cell.TheVariants as Cell
 use Rattle.verilog.specs.Reading.{expression_in, after_front}
-use Rattle.verilog.proofs.FormLaws.{Among, but_statement, but_block, but_process, not-statement, is-missed}
+use Rattle.verilog.proofs.FormLaws.{not-statement, is-missed}
 use Rattle.translate.specs.Translation.{Emitted, translate_expression}
 use Rattle.translate_blocks.specs.Words.{packed, unpacked, slot_of, Written, merge_words}
 use Rattle.translate_blocks.specs.Writing.{Emits, expression_at, Translator, behind, untouched, write_all, write_assign, write_assign_bit, write_front, write_if, write_case, write_by, write_statement, write_block, write_item, write_process, LogKept, Translates, Room}
@@ -331,20 +331,20 @@ module _ (count d : ℕ) (l table : List ℕ) (n : ℕ) where
           write_statement count d s l table n ≡ write_by count (d - 1) (write_block count (d - 1)) (write_item count (d - 1)) t l table n
       statement-of t e = statement-step count d l table n h s ∙ rw e
 
-      pub statement-other : Among but_statement s → write_statement count d s l table n ≡ untouched table
+      pub statement-other : ((t : StatementSort) → s ≡ Sort.Statement t → ⊥) → write_statement count d s l table n ≡ untouched table
       statement-other k = statement-step count d l table n h s ∙ sym (not-statement s _ (untouched table) k)
 
       pub block-of : s ≡ Sort.Block → write_block count d s l table n ≡ write_all (write_statement count (d - 1)) (fields_at 0 l) table n
       block-of e = block-step count d l table n h s ∙ rw (e, is-itself Sort.Block)
 
-      pub block-other : Among but_block s → write_block count d s l table n ≡ untouched table
-      block-other k = block-step count d l table n h s ∙ rw (is-missed Sort.Block s but_block tt k)
+      pub block-other : (s ≡ Sort.Block → ⊥) → write_block count d s l table n ≡ untouched table
+      block-other k = block-step count d l table n h s ∙ rw (is-missed Sort.Block s k)
 
 module _ (count : ℕ) (s : Sort) (l table : List ℕ) (n : ℕ) where
   pub process-of : s ≡ Sort.Process → write_process count s l table n ≡ write_all (write_statement count 30) (fields_at 0 l) table n
   unfolding write_process
   process-of e = rw (e, is-itself Sort.Process)
 
-  pub process-other : Among but_process s → write_process count s l table n ≡ untouched table
+  pub process-other : (s ≡ Sort.Process → ⊥) → write_process count s l table n ≡ untouched table
   unfolding write_process
-  process-other k = rw (is-missed Sort.Process s but_process tt k)
+  process-other k = rw (is-missed Sort.Process s k)

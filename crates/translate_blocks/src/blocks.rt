@@ -112,7 +112,7 @@ fn assign_bit(
 }
 
 // One statement, by its sort.
-#[cycle(block_case_from_case_of_front_block_if_else_if_sides_item_items_marked_item_statement_statement_by_statements)]
+#[cycle(blocks)]
 fn statement(
     sort: Sort,
     payload: &[u8],
@@ -158,7 +158,7 @@ fn statement(
 }
 
 // What a statement adds, by its sort.
-#[cycle(block_case_from_case_of_front_block_if_else_if_sides_item_items_marked_item_statement_statement_by_statements)]
+#[cycle(blocks)]
 fn statement_by(
     sort: StatementSort,
     part: &[u8],
@@ -197,7 +197,7 @@ fn statement_by(
 }
 
 // An if, its first block on a copy of the table.
-#[cycle(block_case_from_case_of_front_block_if_else_if_sides_item_items_marked_item_statement_statement_by_statements)]
+#[cycle(blocks)]
 fn if_else(
     part: &[u8],
     depth: usize,
@@ -233,7 +233,7 @@ fn if_else(
 }
 
 // An if: the condition, both blocks from the same table, the first one on its copy, and the muxes.
-#[cycle(block_case_from_case_of_front_block_if_else_if_sides_item_items_marked_item_statement_statement_by_statements)]
+#[cycle(blocks)]
 fn if_sides(
     payload: &[u8],
     depth: usize,
@@ -247,7 +247,7 @@ fn if_sides(
     words: &mut [u64],
     top: usize,
 ) -> Emission
-    requires copy_value { copy.old ≡ original.old }
+    requires copy_is_original { copy.old ≡ original.old }
     requires room { Room (length payload.now + 3) count original.old slots.old words.old at cells top }
     ensures { Translates (write_if count depth (write_block count depth) payload.now original.old cells) out.old at cells
         slots.old words.old top out.new result.at result.cells original.new slots.new words.new }
@@ -284,7 +284,7 @@ fn if_sides(
 }
 
 // The block at the front of a part.
-#[cycle(block_case_from_case_of_front_block_if_else_if_sides_item_items_marked_item_statement_statement_by_statements)]
+#[cycle(blocks)]
 fn front_block(
     part: &[u8],
     depth: usize,
@@ -323,7 +323,7 @@ fn front_block(
 }
 
 // A block's statements.
-#[cycle(block_case_from_case_of_front_block_if_else_if_sides_item_items_marked_item_statement_statement_by_statements)]
+#[cycle(blocks)]
 fn block(
     sort: Sort,
     payload: &[u8],
@@ -368,7 +368,7 @@ fn block(
 }
 
 // The statements of a list, in order.
-#[cycle(block_case_from_case_of_front_block_if_else_if_sides_item_items_marked_item_statement_statement_by_statements)]
+#[cycle(blocks)]
 fn statements(
     list: &[u8],
     depth: usize,
@@ -416,7 +416,7 @@ fn statements(
 }
 
 // A case, each item from a copy of the table.
-#[cycle(block_case_from_case_of_front_block_if_else_if_sides_item_items_marked_item_statement_statement_by_statements)]
+#[cycle(blocks)]
 fn case_of(
     part: &[u8],
     depth: usize,
@@ -452,7 +452,7 @@ fn case_of(
 }
 
 // A case: the selector once, forward over the items, and then backward over the log.
-#[cycle(block_case_from_case_of_front_block_if_else_if_sides_item_items_marked_item_statement_statement_by_statements)]
+#[cycle(blocks)]
 fn case_from(
     payload: &[u8],
     depth: usize,
@@ -466,7 +466,7 @@ fn case_from(
     words: &mut [u64],
     top: usize,
 ) -> Emission
-    requires value { entry.now ≡ table.old }
+    requires entry_is_table { entry.now ≡ table.old }
     requires room { Room (length payload.now + 3) count table.old slots.old words.old at cells top }
     ensures { Translates (write_case count depth (write_item count depth) (write_block count depth) payload.now table.old cells) out.old at cells
         slots.old words.old top out.new result.at result.cells table.new slots.new words.new }
@@ -507,7 +507,7 @@ fn item_operand(payload: &[u8]) -> Operand
 }
 
 // Forward over the items of a case, and the block that ends them.
-#[cycle(block_case_from_case_of_front_block_if_else_if_sides_item_items_marked_item_statement_statement_by_statements)]
+#[cycle(blocks)]
 fn items(
     list: &[u8],
     selector: Operand,
@@ -522,7 +522,7 @@ fn items(
     words: &mut [u64],
     top: usize,
 ) -> Progress
-    requires value { entry.now ≡ table.old }
+    requires entry_is_table { entry.now ≡ table.old }
     requires room { Room (length list.now) count table.old slots.old words.old at cells top }
     ensures { Forwards (forward_items (write_item count depth) (write_block count depth) selector (fields_at 0 list.now) entry.now cells)
         out.old at cells slots.old words.old top out.new result.at result.cells table.new slots.new words.new result.top }
@@ -569,7 +569,7 @@ fn items(
 }
 
 // One item of a case: an equal cell, its block, and its changes into the log, after which the table is again what it was.
-#[cycle(block_case_from_case_of_front_block_if_else_if_sides_item_items_marked_item_statement_statement_by_statements)]
+#[cycle(blocks)]
 fn marked_item(
     payload: &[u8],
     selector: Operand,
@@ -584,7 +584,7 @@ fn marked_item(
     words: &mut [u64],
     top: usize,
 ) -> Progress
-    requires value { entry.now ≡ table.old }
+    requires entry_is_table { entry.now ≡ table.old }
     requires room { Room (length payload.now + 3) count table.old slots.old words.old at cells top }
     ensures table_after { table.new ≡ entry.now }
     ensures marks { Marks (equal_cell selector payload.now ∷ (write_item count depth payload.now entry.now (cells + 1)).cells)
@@ -614,7 +614,7 @@ fn marked_item(
 }
 
 // An item's block, which follows its constant.
-#[cycle(block_case_from_case_of_front_block_if_else_if_sides_item_items_marked_item_statement_statement_by_statements)]
+#[cycle(blocks)]
 fn item(
     payload: &[u8],
     depth: usize,

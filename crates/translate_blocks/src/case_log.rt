@@ -14,8 +14,8 @@ use tagged::limits::Variables;
 // Logs an entry of a table, if it differs from the entry table's. The index past what is logged.
 fn log_one(slots: &mut [u8], words: &mut [u64], top: usize, slot: u8, old: u64, word: u64) -> usize
     requires { top + 1 ≤ 2 ^ 40 }
-    ensures wrote { Wrote slots.old top (cond (eqb old word) [] (slot ∷ [])) slots.new result }
-    ensures wrote_2 { Wrote words.old top (cond (eqb old word) [] (word ∷ [])) words.new result }
+    ensures slots_logged { Wrote slots.old top (cond (eqb old word) [] (slot ∷ [])) slots.new result }
+    ensures words_logged { Wrote words.old top (cond (eqb old word) [] (word ∷ [])) words.new result }
 {
     if old == word {
         top

@@ -107,7 +107,7 @@ fn two_cell(op: TwoOperand, first: Emitted, second: Emitted, out: &mut [u8]) -> 
 }
 
 // The cells of the expression at the front of a part. The table holds the current operand of each variable, in words.
-#[cycle(expression_expression_by)]
+#[cycle(expressions)]
 pub fn expression(
     part: &[u8],
     depth: usize,
@@ -136,7 +136,7 @@ pub fn expression(
 }
 
 // The cells of an expression, by its sort and payload.
-#[cycle(expression_expression_by)]
+#[cycle(expressions)]
 fn expression_by(
     sort: ExpressionSort,
     payload: &[u8],

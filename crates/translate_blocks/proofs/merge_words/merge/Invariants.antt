@@ -1,0 +1,13 @@
+use Prim.Native.Nat.{◌-◌}
+use native.Mathlib.Omega.{arith}
+use lib.ListN.{length}
+use Rattle.translate_blocks.proofs.EmitLaws.{emits-length}
+use Rattle.translate_blocks.proofs.MergingSteps.{MergeGoing, merge-start, merge-room, merge-turn, merge-done}
+use borrow.Author.Rules.{rules}
+use Rattle.translate_blocks.proofs.merge_words.merge.Given as goal
+
+abbrev pub invariant-loop-index : goal.invariant-loop-index
+invariant-loop-index l = MergeGoing l.condition l.cells l.first l.initial.table l.initial.out l.at l.index l.out l.table l.place l.count
+
+abbrev pub decreases-loop-index : goal.decreases-loop-index
+decreases-loop-index l = length l.first - l.index

@@ -1,0 +1,13 @@
+use mathlib.Core.Path.{◌≡◌, refl, ap, ◌∙◌}
+use Prim.Native.Nat.{◌-◌, ◌≤◌}
+use native.Mathlib.Omega.{arith}
+use lib.ListN.{length, take, set}
+use Rattle.translate_blocks.proofs.PackingLaws.{copy-turn, copy_done}
+use borrow.Author.Rules.{rules}
+use Rattle.translate_blocks.proofs.packing.copy_words.Given as goal
+
+abbrev pub invariant-loop-index : goal.invariant-loop-index
+invariant-loop-index l = (l.index ≤ length l.words) × (length l.copy ≡ length l.initial.copy) × (take l.index l.copy ≡ take l.index l.words)
+
+abbrev pub decreases-loop-index : goal.decreases-loop-index
+decreases-loop-index l = length l.words - l.index
