@@ -21,7 +21,7 @@ use Rattle.tagged.proofs.SortLaws.{is-itself}
 use Rattle.tagged.proofs.FieldLists.{field-within, field-more, field-none}
 use Rattle.verilog.specs.Reading.{expression_in, after_front}
 use Rattle.verilog.specs.Cycle.{State}
-use Rattle.verilog.proofs.FormLaws.{Among, but_statement, but_block, but_process, not-statement, is-missed, but_branch, not-branch}
+use Rattle.verilog.proofs.FormLaws.{not-statement, is-missed, not-branch}
 use Rattle.verilog_run.specs.declared.evaluate.Number.{Number}
 use Rattle.verilog_run.specs.Numbers.{number_in}
 use Rattle.verilog_run.specs.Execution.{Runner, run_all, item_value, front_block, run_items, statement_run, run_statement, run_block, run_item, run_process}
@@ -64,9 +64,9 @@ module _ (l : List ℕ) (at : ℕ) (opened : Opened) (found : opened ≡ open_of
     items-none y e = rw (field-none l at opened found 0 y e) at going
 
     module _ (s : Sort) (n : ℕ) (e : opened ≡ Opened.Field s n) where
-      pub items-other : Among but_branch s → state ≡ last
+      pub items-other : (s ≡ Sort.Item → ⊥) → (s ≡ Sort.Block → ⊥) → state ≡ last
       unfolding run_items
-      items-other k = sym (not-branch s _ _ state k) ∙ rw (field-more l at opened found 0 s n e) at going
+      items-other no_item no_block = sym (not-branch s _ _ state no_item no_block) ∙ rw (field-more l at opened found 0 s n e) at going
 
       module _ (p : List ℕ) (q : p ≡ take n (drop (at + 3) l)) where
         pub items-block : s ≡ Sort.Block → (after : State) → after ≡ block s p state → after ≡ last
@@ -145,17 +145,17 @@ module _ (widths : List ℕ) (d : ℕ) (l : List ℕ) (state : State) where
       block-of e p = p ∙ rw (block-step widths d h s l state, e, is-itself Sort.Block)
 
   module _ (h : d ≡ 0 → ⊥) (s : Sort) where
-    pub statement-other : Among but_statement s → state ≡ run_statement widths d s l state
+    pub statement-other : ((t : StatementSort) → s ≡ Sort.Statement t → ⊥) → state ≡ run_statement widths d s l state
     statement-other k = rw (statement-step widths d h s l state) (not-statement s _ state k)
 
-    pub block-other : Among but_block s → state ≡ run_block widths d s l state
-    block-other k = rw (block-step widths d h s l state, is-missed Sort.Block s but_block tt k)
+    pub block-other : (s ≡ Sort.Block → ⊥) → state ≡ run_block widths d s l state
+    block-other k = rw (block-step widths d h s l state, is-missed Sort.Block s k)
 
 module _ (widths : List ℕ) (s : Sort) (l : List ℕ) (state : State) where
   pub process-of : s ≡ Sort.Process → (after : State) → after ≡ run_all (run_statement widths 30) (fields_at 0 l) state → after ≡ run_process widths s l state
   unfolding run_process
   process-of e after p = p ∙ rw (e, is-itself Sort.Process)
 
-  pub process-other : Among but_process s → state ≡ run_process widths s l state
+  pub process-other : (s ≡ Sort.Process → ⊥) → state ≡ run_process widths s l state
   unfolding run_process
-  process-other k = rw (is-missed Sort.Process s but_process tt k)
+  process-other k = rw (is-missed Sort.Process s k)

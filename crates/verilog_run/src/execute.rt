@@ -73,7 +73,7 @@ fn assign_bit(
 }
 
 // One statement, by its sort.
-#[cycle(block_case_of_front_block_if_else_item_items_statement_statement_by_statements)]
+#[cycle(execution)]
 fn statement(
     sort: Sort,
     payload: &[u8],
@@ -98,7 +98,7 @@ fn statement(
 }
 
 // What a statement does, by its sort.
-#[cycle(block_case_of_front_block_if_else_item_items_statement_statement_by_statements)]
+#[cycle(execution)]
 fn statement_by(
     sort: StatementSort,
     payload: &[u8],
@@ -123,7 +123,7 @@ fn statement_by(
 }
 
 // An if takes the first block on 1, else the second.
-#[cycle(block_case_of_front_block_if_else_item_items_statement_statement_by_statements)]
+#[cycle(execution)]
 fn if_else(payload: &[u8], depth: usize, widths: &[u8], current: &mut [u32], pending: &mut [u32])
     requires { length payload.now ≤ 2 ^ 40 }
     ensures { state_of current.new pending.new ≡ statement_run widths.now depth
@@ -140,7 +140,7 @@ fn if_else(payload: &[u8], depth: usize, widths: &[u8], current: &mut [u32], pen
 }
 
 // The block at the front of a part.
-#[cycle(block_case_of_front_block_if_else_item_items_statement_statement_by_statements)]
+#[cycle(execution)]
 fn front_block(part: &[u8], depth: usize, widths: &[u8], current: &mut [u32], pending: &mut [u32])
     requires { length part.now ≤ 2 ^ 40 }
     ensures { state_of current.new pending.new ≡ front_block (run_block widths.now depth) part.now
@@ -155,7 +155,7 @@ fn front_block(part: &[u8], depth: usize, widths: &[u8], current: &mut [u32], pe
 }
 
 // A block's statements.
-#[cycle(block_case_of_front_block_if_else_item_items_statement_statement_by_statements)]
+#[cycle(execution)]
 fn block(
     sort: Sort,
     payload: &[u8],
@@ -178,7 +178,7 @@ fn block(
 }
 
 // The statements of a list, in order.
-#[cycle(block_case_of_front_block_if_else_item_items_statement_statement_by_statements)]
+#[cycle(execution)]
 fn statements(list: &[u8], depth: usize, widths: &[u8], current: &mut [u32], pending: &mut [u32])
     requires { length list.now ≤ 2 ^ 40 }
     ensures { state_of current.new pending.new ≡ run_all (run_statement widths.now depth) (fields_at 0 list.now)
@@ -206,7 +206,7 @@ fn statements(list: &[u8], depth: usize, widths: &[u8], current: &mut [u32], pen
 }
 
 // A case evaluates its selector once, and takes the first equal item, else the default.
-#[cycle(block_case_of_front_block_if_else_item_items_statement_statement_by_statements)]
+#[cycle(execution)]
 fn case_of(payload: &[u8], depth: usize, widths: &[u8], current: &mut [u32], pending: &mut [u32])
     requires { length payload.now ≤ 2 ^ 40 }
     ensures { state_of current.new pending.new ≡ statement_run widths.now depth
@@ -235,7 +235,7 @@ fn item_value(payload: &[u8]) -> u32
 }
 
 // The first item of a list whose value the selector has, else the block that ends them.
-#[cycle(block_case_of_front_block_if_else_item_items_statement_statement_by_statements)]
+#[cycle(execution)]
 fn items(
     list: &[u8],
     selector: u32,
@@ -278,7 +278,7 @@ fn items(
 }
 
 // An item's block, which follows its constant.
-#[cycle(block_case_of_front_block_if_else_item_items_statement_statement_by_statements)]
+#[cycle(execution)]
 fn item(payload: &[u8], depth: usize, widths: &[u8], current: &mut [u32], pending: &mut [u32])
     requires { length payload.now ≤ 2 ^ 40 }
     ensures { state_of current.new pending.new ≡ run_item widths.now depth payload.now
