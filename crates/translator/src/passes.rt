@@ -33,7 +33,7 @@ fn put_rest(
     words: &mut [u64],
 ) -> Emission
     requires log_room { LogRoom list.now slots.old words.old }
-    requires list_len_bound { (length list.now ≤ longest_module) × (length widths.now ≤ most_variables) × (length marks.now ≤ most_variables) × (length table.old ≡ 2 * length widths.now) × (at ≤ 2 ^ 20) }
+    requires short { (length list.now ≤ longest_module) × (length widths.now ≤ most_variables) × (length marks.now ≤ most_variables) × (length table.old ≡ 2 * length widths.now) × (at ≤ 2 ^ 20) }
     ensures { Passed out.old at (rest_of widths.now marks.now firsts.now list.now)
         (passed_cells widths.now list.now) out.new result.at result.cells }
 {
@@ -59,7 +59,7 @@ fn pass(
     words: &mut [u64],
 ) -> Emission
     requires log_room { LogRoom list.now slots.old words.old }
-    requires list_len_bound { (length declared.now + length list.now ≤ longest_module) × (length widths.now ≤ most_variables) × (length marks.now ≤ most_variables) }
+    requires short { (length declared.now + length list.now ≤ longest_module) × (length widths.now ≤ most_variables) × (length marks.now ≤ most_variables) }
     ensures { Passed out.old 0 (whole_of size declared.now widths.now marks.now firsts.now list.now)
         (passed_cells widths.now list.now) out.new result.at result.cells }
 {
@@ -92,7 +92,7 @@ fn both_passes(
     words: &mut [u64],
 ) -> Translation
     requires log_room { LogRoom list.now slots.old words.old }
-    requires list_len_bound { (length declared.now + length list.now ≤ longest_module) × (length widths.now ≤ most_variables) × (length marks.now ≤ most_variables) }
+    requires short { (length declared.now + length list.now ≤ longest_module) × (length widths.now ≤ most_variables) × (length marks.now ≤ most_variables) }
     ensures { Promise (pass_answer declared.now widths.now marks.now firsts.now list.now (length out.old))
         (pass_buffer declared.now widths.now marks.now firsts.now list.now out.old) result out.new }
 {
