@@ -15,7 +15,6 @@ use Rattle.tagged.specs.Parts.{first_name, name_in}
 use Rattle.tagged.specs.Declarations.{Declaration, name_of, declaration_read, declarations_at, declarations_in, declarations_step, after_declarations}
 use Rattle.tagged.specs.declared.answers.Rule.{Rule}
 use Rattle.tagged.specs.declared.answers.Answer.{Answer}
-use Rattle.tagged.specs.declared.answers.Answer.TheVariants as Answer
 use Rattle.tagged.specs.declared.parts.Part.{Part}
 use Rattle.netlist.specs.Answer.{netlist_answer}
 use Rattle.netlist.specs.Form.{cell_bytes}

@@ -20,7 +20,6 @@ use Rattle.verilog.specs.Parts.{name_part}
 use Rattle.verilog_check.proofs.AcceptedFile.{length-accepted}
 use Rattle.listing.specs.Listing.{empty_part, settled_part, module_part, netlist_part, in_module, in_netlist, listed_part, part_bytes, bytes_in, listed_bytes}
 use Rattle.listing.specs.declared.Listed.{Listed}
-use Rattle.listing.specs.declared.Listed.TheVariants as Listed
 
 pub settled-empty : (p : Part) → p.start ≡ p.end → empty_part ≡ settled_part p
 unfolding settled_part

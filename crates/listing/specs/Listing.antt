@@ -2,14 +2,12 @@
 -- an empty part where the file in question is refused or the operand (kind and number) names nothing.
 use Rattle.std.specs.Prelude.{cond, List, ℕ, ◌-◌, eqb, take, drop}
 use Rattle.tagged.specs.declared.answers.Answer.{Answer}
-use Rattle.tagged.specs.declared.answers.Answer.TheVariants as Answer
 use Rattle.tagged.specs.declared.parts.Part.{Part}
 use Rattle.netlist.specs.Answer.{netlist_answer}
 use Rattle.netlist.specs.Parts.{cell_part}
 use Rattle.verilog.specs.Answer.{module_answer}
 use Rattle.verilog.specs.Parts.{name_part}
 use Rattle.listing.specs.declared.Listed.{Listed}
-use Rattle.listing.specs.declared.Listed.TheVariants as Listed
 
 -- the empty part, at the front of a file
 abbrev pub empty_part : Part

@@ -13,11 +13,8 @@ use Rattle.tagged.specs.Answers.{number_of, Promise}
 use Rattle.tagged.specs.Bytes.{Wrote}
 use Rattle.tagged.specs.Limits.{most_cells}
 use Rattle.tagged.specs.declared.answers.Rule.{Rule}
-use Rattle.tagged.specs.declared.answers.Rule.TheVariants as Rule
 use Rattle.tagged.specs.declared.answers.Answer.{Answer}
-use Rattle.tagged.specs.declared.answers.Answer.TheVariants as Answer
 use Rattle.tagged.specs.declared.answers.Translation.{Translation}
-use Rattle.tagged.specs.declared.answers.Translation.TheVariants as Translation
 use Rattle.tagged.proofs.WriteLaws.{wrote_then, wrote_none, wrote-roomy}
 use Rattle.verilog.specs.Answer.{module_answer}
 use Rattle.translate.specs.Answer.{translated_bytes, cell_count, after_check, translate_answer, buffer_after, translate_buffer, largest_netlist}

@@ -2,7 +2,6 @@
 use Rattle.std.specs.Prelude.{cond, List, [], ◌∷◌, ◌++◌, ℕ, zero, suc, ◌+◌, ◌/◌, ◌%◌, ltb, length, drop}
 use Rattle.tagged.specs.Answers.{number_of}
 use Rattle.tagged.specs.declared.answers.Translation.{Translation}
-use Rattle.tagged.specs.declared.answers.Translation.TheVariants as Translation
 use Rattle.translate.specs.Answer.{translated_bytes, translate_answer, largest_netlist}
 
 -- a number in decimal, of at most so many digits: the digits of a tenth of it, then its last one

@@ -8,16 +8,11 @@ use lib.ListN.{length, get_or, drop, length-append, length-drop, length-set}
 use Rattle.tagged.specs.Sorts.{on_expression, is_sort}
 use Rattle.tagged.specs.Fields.{Placed, Field, fields_at}
 use Rattle.tagged.specs.declared.sorts.StatementSort.{StatementSort}
-use Rattle.tagged.specs.declared.sorts.StatementSort.TheVariants as StatementSort
 use Rattle.tagged.specs.declared.sorts.ExpressionSort.{ExpressionSort}
-use Rattle.tagged.specs.declared.sorts.ExpressionSort.TheVariants as ExpressionSort
 use Rattle.tagged.specs.declared.sorts.Sort.{Sort}
-use Rattle.tagged.specs.declared.sorts.Sort.TheVariants as Sort
 use Rattle.netlist.specs.Lists.{operand_width}
 use Rattle.netlist.specs.declared.Operand.{Operand}
-use Rattle.netlist.specs.declared.Operand.TheVariants as Operand
 use Rattle.netlist.specs.declared.Cell.{Cell}
-use Rattle.netlist.specs.declared.Cell.TheVariants as Cell
 use Rattle.verilog.specs.Tree.{Expression}
 use Rattle.verilog.specs.Reading.{no_expression, after_front, expression_with, expression_in}
 use Rattle.translate.specs.Translation.{Emitted, translate_expression}

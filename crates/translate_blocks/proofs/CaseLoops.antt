@@ -11,7 +11,6 @@ use lib.Seq.{append_snoc, set-append_seam}
 use borrow.Author.Tests.{eqb-true}
 use Rattle.tagged.specs.Fields.{Placed, Field, fields_at}
 use Rattle.netlist.specs.declared.Operand.{Operand}
-use Rattle.netlist.specs.declared.Operand.TheVariants as Operand
 use Rattle.netlist.specs.declared.Cell.{Cell}
 use Rattle.translate_blocks.specs.Words.{Written, merge_words}
 use Rattle.translate_blocks.specs.Writing.{Translator, behind, untouched, join_words, write_items, write_item}

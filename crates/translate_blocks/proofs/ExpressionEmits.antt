@@ -10,12 +10,9 @@ use Rattle.words.specs.declared.OneOperand.{OneOperand}
 use Rattle.words.specs.declared.TwoOperand.{TwoOperand}
 use Rattle.tagged.specs.Bytes.{four_of}
 use Rattle.tagged.specs.declared.sorts.ExpressionSort.{ExpressionSort}
-use Rattle.tagged.specs.declared.sorts.ExpressionSort.TheVariants as ExpressionSort
 use Rattle.netlist.specs.Lists.{operand_width}
 use Rattle.netlist.specs.declared.Operand.{Operand}
-use Rattle.netlist.specs.declared.Operand.TheVariants as Operand
 use Rattle.netlist.specs.declared.Cell.{Cell}
-use Rattle.netlist.specs.declared.Cell.TheVariants as Cell
 use Rattle.verilog.specs.Tree.{Expression}
 use Rattle.verilog.specs.Reading.{no_expression, after_front, expression_with, expression_in}
 use Rattle.translate.specs.Tables.{operand_at}

@@ -7,7 +7,6 @@ use lib.ListN.{length, take, drop, length-take, length-drop}
 use Rattle.tagged.specs.Fields.{open_of, on_field, fields_at, Placed, Field}
 use Rattle.tagged.specs.declared.sorts.Sort.{Sort}
 use Rattle.tagged.specs.declared.fields.Opened.{Opened}
-use Rattle.tagged.specs.declared.fields.Opened.TheVariants as Opened
 use Rattle.tagged.proofs.FieldLaws.{Whole, open_none, open-whole}
 use Rattle.tagged.proofs.FieldLists.{fields-none, fields-more}
 use Rattle.verilog.specs.Reading.{front_by, after_front}

@@ -8,13 +8,10 @@ use lib.ListN.{length, take, drop, length-take, length-append}
 use Rattle.words.specs.declared.TwoOperand.TheVariants as two-operand
 use Rattle.tagged.specs.Fields.{Placed, Field, open_of, fields_at}
 use Rattle.tagged.specs.declared.sorts.Sort.{Sort}
-use Rattle.tagged.specs.declared.sorts.Sort.TheVariants as Sort
 use Rattle.tagged.specs.declared.fields.Opened.{Opened}
-use Rattle.tagged.specs.declared.fields.Opened.TheVariants as Opened
 use Rattle.tagged.proofs.FieldLists.{field-within}
 use Rattle.netlist.specs.declared.Operand.{Operand}
 use Rattle.netlist.specs.declared.Cell.{Cell}
-use Rattle.netlist.specs.declared.Cell.TheVariants as Cell
 use Rattle.translate_blocks.specs.Words.{Written}
 use Rattle.translate_blocks.specs.Writing.{Emits, item_operand, write_item, write_block, LogKept, Translates, Room}
 use Rattle.translate_blocks.specs.Log.{changes, changes_of, Mark, log_entries, Forward, onward, equal_cell, mark_of, forward_items, backward_items, Filed, Forwards, Marks}

@@ -8,7 +8,6 @@ use lib.ListN.{length, take, drop, length-take}
 use Rattle.tagged.specs.Fields.{open_of, fields_at}
 use Rattle.tagged.specs.declared.sorts.Sort.{Sort}
 use Rattle.tagged.specs.declared.fields.Opened.{Opened}
-use Rattle.tagged.specs.declared.fields.Opened.TheVariants as Opened
 use Rattle.tagged.proofs.FieldLists.{field-within, field-more, field-none}
 use Rattle.netlist.specs.declared.Cell.{Cell}
 use Rattle.translate_blocks.specs.Words.{Written}

@@ -12,9 +12,7 @@ use lib.Seq.{drop-cons, take-suc-set, take_all, drop-set-lt}
 use borrow.Author.Tests.{eq-eqb, ne_eqb}
 use Rattle.netlist.specs.Lists.{operand_width}
 use Rattle.netlist.specs.declared.Operand.{Operand}
-use Rattle.netlist.specs.declared.Operand.TheVariants as Operand
 use Rattle.netlist.specs.declared.Cell.{Cell}
-use Rattle.netlist.specs.declared.Cell.TheVariants as Cell
 use Rattle.translate_blocks.specs.Words.{packed, unpacked, Written, same_word, mux_word, merge_words}
 use Rattle.translate_blocks.specs.Writing.{Emits}
 use Rattle.translate_blocks.proofs.EmitLaws.{emits_none, emits_then, emits-as, emits-past}

@@ -12,7 +12,6 @@ use mathlib.Core.List.{List, [], ◌∷◌, ◌++◌}
 use borrow.Author.Tests.{eqb-true, eq-eqb, ne_eqb}
 use Rattle.netlist.specs.Fits.{FitsByte, FitsFour, FitsOperand}
 use Rattle.netlist.specs.declared.Operand.{Operand}
-use Rattle.netlist.specs.declared.Operand.TheVariants as Operand
 use Rattle.translate.specs.Tables.{same_operand}
 use Rattle.translate_blocks.specs.Words.{word_of, packed, unpacked}
 use Rattle.translate.proofs.Merging.{same_operand_lem}

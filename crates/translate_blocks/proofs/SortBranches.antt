@@ -4,7 +4,6 @@ use Rattle.tagged.specs.Sorts.{on_statement, on_expression}
 use Rattle.tagged.specs.declared.sorts.StatementSort.{StatementSort}
 use Rattle.tagged.specs.declared.sorts.ExpressionSort.{ExpressionSort}
 use Rattle.tagged.specs.declared.sorts.Sort.{Sort}
-use Rattle.tagged.specs.declared.sorts.Sort.TheVariants as Sort
 use Rattle.verilog.specs.Reading.{by_branch}
 
 -- by a test

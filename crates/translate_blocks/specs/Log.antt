@@ -5,9 +5,7 @@ use Rattle.words.specs.declared.TwoOperand.TheVariants as two-operand
 use Rattle.tagged.specs.Fields.{Placed, Field}
 use Rattle.netlist.specs.Fits.{Every}
 use Rattle.netlist.specs.declared.Operand.{Operand}
-use Rattle.netlist.specs.declared.Operand.TheVariants as Operand
 use Rattle.netlist.specs.declared.Cell.{Cell}
-use Rattle.netlist.specs.declared.Cell.TheVariants as Cell
 use Rattle.translate_blocks.specs.Words.{Written, merge_words}
 use Rattle.translate_blocks.specs.Writing.{Emits, Translator, behind, untouched, item_operand, LogKept}
 use Rattle.verilog.specs.Reading.{by_branch}

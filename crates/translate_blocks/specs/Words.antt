@@ -1,12 +1,9 @@
 -- Operands as the code's tables hold them: an operand in one word, and both operands of each variable in one table, all current ones before all pending ones.
 use Rattle.std.specs.Prelude.{cond, List, [], ◌∷◌, map, ℕ, ◌+◌, ◌*◌, ◌/◌, ◌%◌, ◌^◌, eqb, take}
 use Rattle.tagged.specs.declared.sorts.Kind.{Kind}
-use Rattle.tagged.specs.declared.sorts.Kind.TheVariants as Kind
 use Rattle.netlist.specs.Lists.{operand_width}
 use Rattle.netlist.specs.declared.Operand.{Operand}
-use Rattle.netlist.specs.declared.Operand.TheVariants as Operand
 use Rattle.netlist.specs.declared.Cell.{Cell}
-use Rattle.netlist.specs.declared.Cell.TheVariants as Cell
 
 -- kind, width and number, as their bytes stand in a file
 abbrev pub word_of : ℕ → ℕ → ℕ → ℕ

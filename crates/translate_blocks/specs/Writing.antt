@@ -7,15 +7,11 @@ use Rattle.tagged.specs.Sorts.{on_statement, is_sort}
 use Rattle.tagged.specs.Fields.{Placed, Field, fields_at, all_bytes_of}
 use Rattle.tagged.specs.declared.sorts.Kind.{Kind}
 use Rattle.tagged.specs.declared.sorts.StatementSort.{StatementSort}
-use Rattle.tagged.specs.declared.sorts.StatementSort.TheVariants as StatementSort
 use Rattle.tagged.specs.declared.sorts.Sort.{Sort}
-use Rattle.tagged.specs.declared.sorts.Sort.TheVariants as Sort
 use Rattle.netlist.specs.Lists.{operand_width}
 use Rattle.netlist.specs.Form.{cell_bytes}
 use Rattle.netlist.specs.declared.Operand.{Operand}
-use Rattle.netlist.specs.declared.Operand.TheVariants as Operand
 use Rattle.netlist.specs.declared.Cell.{Cell}
-use Rattle.netlist.specs.declared.Cell.TheVariants as Cell
 use Rattle.verilog.specs.Reading.{front_by, after_front, expression_in, by_branch}
 use Rattle.translate_blocks.specs.Words.{packed, unpacked, slot_of, current_operands, Written, merge_words}
 use Rattle.translate.specs.Translation.{Emitted, translate_expression}

@@ -13,7 +13,6 @@ use Rattle.tagged.specs.Rows.{row_bytes, row_numbers, all_fit, rows_fit, row_ans
 use Rattle.tagged.specs.Runs.{run_answer_of, row_left}
 use Rattle.tagged.specs.Cycles.{with_inputs, inputs_fit, cycles_by}
 use Rattle.tagged.specs.declared.answers.Answer.{Answer}
-use Rattle.tagged.specs.declared.answers.Answer.TheVariants as Answer
 use Rattle.tagged.proofs.RowLaws.{row_back, bytes-length, fits-length}
 use Rattle.tagged.proofs.CycleLaws.{with-inputs-fits, Steps}
 use Rattle.translator.specs.Calls.{RunCall, Calls, no_call, call}

@@ -26,9 +26,7 @@ use Rattle.tagged.specs.Declarations.{Declaration, width_of}
 use Rattle.tagged.specs.Rows.{row_bytes, all_fit}
 use Rattle.tagged.specs.Cycles.{inputs_fit, cycles_by}
 use Rattle.tagged.specs.declared.answers.Answer.{Answer}
-use Rattle.tagged.specs.declared.answers.Answer.TheVariants as Answer
 use Rattle.tagged.specs.declared.answers.Translation.{Translation}
-use Rattle.tagged.specs.declared.answers.Translation.TheVariants as Translation
 use Rattle.tagged.proofs.TestLaws.{both}
 use Rattle.tagged.proofs.CycleLaws.{Steps}
 use Rattle.netlist.specs.Lists.{Netlist}

@@ -17,14 +17,10 @@ use Rattle.tagged.specs.Fields.{all_bytes_of}
 use Rattle.tagged.specs.Answers.{Promise}
 use Rattle.tagged.specs.declared.sorts.Sort.TheVariants as Sort
 use Rattle.tagged.specs.declared.answers.Rule.{Rule}
-use Rattle.tagged.specs.declared.answers.Rule.TheVariants as Rule
 use Rattle.tagged.specs.declared.answers.Answer.{Answer}
-use Rattle.tagged.specs.declared.answers.Answer.TheVariants as Answer
 use Rattle.tagged.specs.declared.answers.Translation.{Translation}
-use Rattle.tagged.specs.declared.answers.Translation.TheVariants as Translation
 use Rattle.tagged.specs.declared.limits.Cells.{Cells}
 use Rattle.tagged.specs.declared.limits.CellsMade.{CellsMade}
-use Rattle.tagged.specs.declared.limits.CellsMade.TheVariants as CellsMade
 use Rattle.tagged.proofs.AllBytesLaws.{all-length}
 use Rattle.tagged.proofs.WriteLaws.{wrote_then, wrote-roomy}
 use Rattle.netlist.specs.Form.{cell_bytes, drive_bytes}

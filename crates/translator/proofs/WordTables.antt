@@ -7,10 +7,8 @@ use native.Mathlib.Omega.{arith}
 use lib.ListN.{length, get_or, set, length-map, get_or-append, get_or-map}
 use lib.Seq.{take_at, get_or-append-add, set-append_left}
 use Rattle.tagged.specs.declared.sorts.Kind.{Kind}
-use Rattle.tagged.specs.declared.sorts.Kind.TheVariants as Kind
 use Rattle.netlist.specs.Fits.{FitsOperand, Every}
 use Rattle.netlist.specs.declared.Operand.{Operand}
-use Rattle.netlist.specs.declared.Operand.TheVariants as Operand
 use Rattle.translate.specs.Tables.{Tables, operand_at, held_operand, replaced}
 use Rattle.translate_blocks.specs.Words.{packed, unpacked, slot_of, current_operands}
 use Rattle.translate_blocks.proofs.PackingLaws.{unpacked-packed}

@@ -15,7 +15,6 @@ use Rattle.tagged.specs.declared.sorts.Sort.TheVariants as Sort
 use Rattle.tagged.proofs.SortLaws.{is-itself}
 use Rattle.netlist.specs.Lists.{operand_width}
 use Rattle.netlist.specs.declared.Operand.{Operand}
-use Rattle.netlist.specs.declared.Operand.TheVariants as Operand
 use Rattle.netlist.specs.declared.Cell.TheVariants as Cell
 use Rattle.verilog.specs.Tree.{Expression, assign, assign_bit, Block}
 use Rattle.verilog.specs.Form.{expression_bytes, block_payload, block_bytes}

@@ -1,6 +1,5 @@
 -- `listing::find_part` meets its contract, by the operand's kind. Assumes nothing.
 use Rattle.listing.proofs.ListingSteps.{of-variable, of-cell, of-neither}
-use borrow.Author.Rules.{rules}
 use Rattle.listing.proofs.find_part.Goals as goal
 
 pub returns-then-kind-eq1 : goal.returns-then-kind-eq1

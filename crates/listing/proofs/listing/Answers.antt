@@ -1,6 +1,5 @@
 -- `listing::listing` meets its contract: the part is that of the file in which it lies. Assumes nothing.
 use Rattle.listing.proofs.ListingSteps.{shown-module, shown-netlist}
-use borrow.Author.Rules.{rules}
 use Rattle.listing.proofs.listing.Goals as goal
 
 pub returns-in-Module : goal.returns-in-Module

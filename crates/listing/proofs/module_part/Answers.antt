@@ -1,7 +1,6 @@
 -- `listing::module_part` meets its contract: an accepted module's part is settled, a refused one's is empty. Assumes nothing.
 use mathlib.Core.Path.{sym, ◌∙◌}
 use Rattle.listing.proofs.ListingSteps.{module-short, module-accepted, module-refused}
-use borrow.Author.Rules.{rules}
 use Rattle.listing.proofs.module_part.Goals as goal
 
 pub name_part-requires : goal.name_part-requires

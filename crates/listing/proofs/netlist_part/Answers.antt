@@ -1,7 +1,6 @@
 -- `listing::netlist_part` meets its contract: an accepted netlist's part is settled, a refused one's is empty. Assumes nothing.
 use mathlib.Core.Path.{sym, ◌∙◌}
 use Rattle.listing.proofs.ListingSteps.{netlist-short, netlist-accepted, netlist-refused}
-use borrow.Author.Rules.{rules}
 use Rattle.listing.proofs.netlist_part.Goals as goal
 
 pub cell_part-requires : goal.cell_part-requires

@@ -1,8 +1,7 @@
 -- `response::put_decimal` meets its contract: the digits of a tenth, then the last one; the digits that are left fall. Assumes nothing.
 use native.Mathlib.Omega.{arith}
-use borrow.Author.Rules.{rules}
 use Rattle.response.proofs.TextLaws.{decimal-none, decimal-last, decimal-more, decimal-short}
-use Prim.Native.Nat.{ℕ, ◌<◌, ◌-◌, ◌/◌}
+use Prim.Native.Nat.{◌-◌, ◌/◌}
 use Rattle.response.proofs.+put_decimal.Goals as goal
 
 pub returns-then-digits-eq0 : goal.returns-then-digits-eq0

@@ -1,7 +1,6 @@
 -- `response::put_refusal` meets its contract: five pieces, one after the other. Assumes nothing.
 use native.Mathlib.Omega.{arith}
 use Rattle.response.proofs.TextLaws.{decimal-short, refusal-written}
-use borrow.Author.Rules.{rules}
 use Rattle.response.proofs.put_refusal.Goals as goal
 
 pub put_part-third-requires : goal.put_part-third-requires

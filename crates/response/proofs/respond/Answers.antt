@@ -1,6 +1,5 @@
 -- `response::respond` meets its contract: a netlist as it was translated, or the text of the refusal. Assumes nothing.
 use Rattle.response.proofs.TextLaws.{respond-written, respond-refused}
-use borrow.Author.Rules.{rules}
 use Rattle.response.proofs.respond.Goals as goal
 
 pub returns-in-Written : goal.returns-in-Written

@@ -1,7 +1,6 @@
 -- `translator::translate` meets its contract: the check's refusal is its own and writes nothing, and otherwise the module is translated. Assumes nothing.
 use mathlib.Core.Path.{sym, ◌∙◌}
 use Rattle.translator.proofs.PassSteps.{check-refused}
-use borrow.Author.Rules.{rules}
 use Rattle.translator.proofs.translate.Goals as goal
 
 pub translate_accepted-requires : goal.translate_accepted-requires

@@ -6,7 +6,6 @@ use Rattle.tagged.proofs.AllBytesLaws.{read-bytes}
 use Rattle.tagged.proofs.TableLaws.{zeros-at}
 use Rattle.verilog_check.proofs.AcceptedFile.{payload-short, widths-room, marks-room, widths-few, marks-few}
 use Rattle.translator.proofs.ModulePassed.{parts-short, list-short, module-passed}
-use borrow.Author.Rules.{rules}
 use Rattle.translator.proofs.translate_accepted.Goals as goal
 
 pub declared_bytes-taken-requires : goal.declared_bytes-taken-requires

@@ -1,18 +1,15 @@
 -- The functions of `translate_blocks::blocks` for statements, blocks and items meet their contracts: by the laws of the translation, the depth left falling.
-use Prim.Native.Nat.{ℕ, ◌<◌, ◌+◌, ◌*◌, ◌≤◌, ◌-◌, ◌^◌}
-use Rattle.translate_blocks.proofs.WritingSteps.{translates-none, translates-as, block-deep, block-of, block-other, room-less, room-expression, case-done, front-found, front-nothing, front-part, room-same, room-front, merge-fits, front_long, if-done, item-deep, item-of, room-emitted, statement-deep, statement-of, statement-other, by-sort}
-use borrow.Author.Rules.{rules}
+use Rattle.translate_blocks.proofs.WritingSteps.{translates-none, translates-as, block-deep, block-of, block-other, room-less, room-expression, case-done, front-found, front-nothing, front-part, room-same, room-front, merge-fits, if-done, item-deep, item-of, room-emitted, statement-deep, statement-of, statement-other, by-sort}
 use native.Mathlib.Omega.{arith}
 use lib.ListN.{length}
-use Rattle.translate_blocks.specs.Writing.{Room, write_block, write_statement}
-use Rattle.translate_blocks.proofs.ItemSteps.{unwind-room, ItemsGoing, items-start, items-none, items-other, items-room, items-block, items-turn, log-room, item-marked}
+use Rattle.translate_blocks.specs.Writing.{write_block}
+use Rattle.translate_blocks.proofs.ItemSteps.{unwind-room, items-start, items-none, items-other, items-room, items-block, items-turn, log-room, item-marked}
 use mathlib.Core.Path.{◌∙◌, sym, refl, ap}
 use Rattle.tagged.proofs.FieldLaws.{open-whole}
-use Rattle.translate_blocks.proofs.EmitLaws.{emits-length}
 use Rattle.translate_blocks.proofs.FieldSizes.{front-within}
 use Rattle.tagged.proofs.FieldLists.{field-within}
-use Rattle.translate_blocks.proofs.Bounds.{block-bounded, statement-bounded}
-use Rattle.translate_blocks.proofs.ListSteps.{ListGoing, list-start, list_done, list-room, list-turn}
+use Rattle.translate_blocks.proofs.Bounds.{statement-bounded}
+use Rattle.translate_blocks.proofs.ListSteps.{list-start, list_done, list-room, list-turn}
 use Rattle.translate_blocks.proofs.blocks.+blocks.Goals as goal
 
 -- `block`: the statements of a block; nothing at depth 0 and for another sort. By what the depth and the sort make of it.

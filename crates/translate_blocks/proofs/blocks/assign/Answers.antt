@@ -3,7 +3,6 @@ use mathlib.Core.Path.{ap}
 use lib.ListN.{length, length-drop}
 use Rattle.translate_blocks.proofs.WritingSteps.{assign-done}
 use native.Mathlib.Omega.{arith}
-use borrow.Author.Rules.{rules}
 use Rattle.translate_blocks.proofs.blocks.assign.Goals as goal
 
 pub expression-value-requires : goal.expression-value-requires

@@ -7,7 +7,6 @@ use Rattle.translate_blocks.proofs.EmitLaws.{emits-past}
 use Rattle.translate_blocks.proofs.Bounds.{expression-small}
 use Rattle.translate_blocks.proofs.WritingSteps.{assign-bit-done}
 use native.Mathlib.Omega.{arith}
-use borrow.Author.Rules.{rules}
 use Rattle.translate_blocks.proofs.blocks.assign_bit.Goals as goal
 
 pub slot_of-slot-requires : goal.slot_of-slot-requires

@@ -5,7 +5,6 @@ use native.Mathlib.Nat.{sub-zero}
 use lib.ListN.{take}
 use native.Mathlib.Omega.{arith}
 use lib.Seq.{take_all}
-use borrow.Author.Rules.{rules}
 use Rattle.translate_blocks.proofs.blocks.front_words.Goals as goal
 
 pub returns-then-count-words : goal.returns-then-count-words

@@ -5,10 +5,8 @@ use native.Mathlib.Omega.{arith}
 use lib.ListN.{get_or, drop}
 use Rattle.tagged.specs.Bytes.{four_of}
 use Rattle.netlist.specs.declared.Operand.{Operand}
-use Rattle.netlist.specs.declared.Operand.TheVariants as Operand
 use Rattle.tagged.proofs.FieldLaws.{open-whole}
 use Rattle.verilog.proofs.FrontReading.{front-field, front-none}
-use borrow.Author.Rules.{rules}
 use Rattle.translate_blocks.proofs.blocks.item_operand.Goals as goal
 
 pub overflow_add-constant : goal.overflow_add-constant

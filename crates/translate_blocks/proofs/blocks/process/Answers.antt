@@ -1,6 +1,5 @@
 -- `translate_blocks::blocks::process` meets its contract: each arm is the sort that the match found. Assumes nothing.
 use Rattle.translate_blocks.proofs.WritingSteps.{translates-none, translates-as, process-of, process-other}
-use borrow.Author.Rules.{rules}
 use Rattle.translate_blocks.proofs.blocks.process.Goals as goal
 
 pub returns-in-Process : goal.returns-in-Process

@@ -1,14 +1,12 @@
 -- `translate_blocks::blocks::processes` meets its contract: what the rest of the list gives behind what is done is what the whole list gives. Assumes nothing.
 use native.Mathlib.Omega.{arith}
-use Prim.Native.Nat.{◌-◌}
-use lib.ListN.{length}
 use borrow.Author.Rules.{rules}
 use Rattle.tagged.proofs.FieldLists.{field-within}
-use Rattle.translate_blocks.specs.Writing.{write_process, write_processes}
+use Rattle.translate_blocks.specs.Writing.{write_processes}
 use Rattle.translate_blocks.proofs.EmitLaws.{emits-length}
 use Rattle.translate_blocks.proofs.Bounds.{more_bytes, process-bounded}
 use Rattle.translate_blocks.proofs.WritingSteps.{room-less}
-use Rattle.translate_blocks.proofs.ListSteps.{ListGoing, list-start, list_done, list-room, list-turn}
+use Rattle.translate_blocks.proofs.ListSteps.{list-start, list_done, list-room, list-turn}
 use Rattle.translate_blocks.proofs.blocks.processes.Goals as goal
 
 pub loop-next-init : goal.loop-next-init

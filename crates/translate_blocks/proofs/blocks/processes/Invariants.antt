@@ -1,13 +1,7 @@
-use native.Mathlib.Omega.{arith}
 use Prim.Native.Nat.{◌-◌}
 use lib.ListN.{length}
-use borrow.Author.Rules.{rules}
-use Rattle.tagged.proofs.FieldLists.{field-within}
-use Rattle.translate_blocks.specs.Writing.{write_process, write_processes}
-use Rattle.translate_blocks.proofs.EmitLaws.{emits-length}
-use Rattle.translate_blocks.proofs.Bounds.{more_bytes, process-bounded}
-use Rattle.translate_blocks.proofs.WritingSteps.{room-less}
-use Rattle.translate_blocks.proofs.ListSteps.{ListGoing, list-start, list_done, list-room, list-turn}
+use Rattle.translate_blocks.specs.Writing.{write_process}
+use Rattle.translate_blocks.proofs.ListSteps.{ListGoing}
 use Rattle.translate_blocks.proofs.blocks.processes.Given as goal
 
 abbrev pub invariant-loop-next : goal.invariant-loop-next

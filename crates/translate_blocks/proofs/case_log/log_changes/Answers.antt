@@ -1,10 +1,7 @@
 -- `translate_blocks::case_log::log_changes` meets its contract: at each turn the entries passed are logged and set back. Assumes nothing.
-use Prim.Native.Nat.{◌-◌}
 use native.Mathlib.Omega.{arith}
-use lib.ListN.{length}
 use Rattle.tagged.proofs.WriteLaws.{wrote-length}
-use Rattle.translate_blocks.proofs.LogSteps.{LogGoing, log-start, log-turn, log-done}
-use borrow.Author.Rules.{rules}
+use Rattle.translate_blocks.proofs.LogSteps.{log-start, log-turn, log-done}
 use Rattle.translate_blocks.proofs.case_log.log_changes.Goals as goal
 
 pub loop-index-init : goal.loop-index-init

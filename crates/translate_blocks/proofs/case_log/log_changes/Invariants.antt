@@ -1,9 +1,6 @@
 use Prim.Native.Nat.{◌-◌}
-use native.Mathlib.Omega.{arith}
 use lib.ListN.{length}
-use Rattle.tagged.proofs.WriteLaws.{wrote-length}
-use Rattle.translate_blocks.proofs.LogSteps.{LogGoing, log-start, log-turn, log-done}
-use borrow.Author.Rules.{rules}
+use Rattle.translate_blocks.proofs.LogSteps.{LogGoing}
 use Rattle.translate_blocks.proofs.case_log.log_changes.Given as goal
 
 abbrev pub invariant-loop-index : goal.invariant-loop-index

@@ -3,7 +3,6 @@ use mathlib.Core.Path.{refl}
 use native.Mathlib.Omega.{arith}
 use Rattle.translate_blocks.proofs.ChangeCounts.{changes-most}
 use Rattle.translate_blocks.proofs.LogSteps.{logged-count, item-logged}
-use borrow.Author.Rules.{rules}
 use Rattle.translate_blocks.proofs.case_log.log_item.Goals as goal
 
 pub overflow_cast-count : goal.overflow_cast-count

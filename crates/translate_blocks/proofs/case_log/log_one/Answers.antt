@@ -2,7 +2,6 @@
 use Rattle.tagged.proofs.WriteLaws.{wrote_none}
 use Rattle.netlist.proofs.PutLaws.{wrote_as}
 use Rattle.translate_blocks.proofs.LogSteps.{logged-same, logged-other}
-use borrow.Author.Rules.{rules}
 use Rattle.translate_blocks.proofs.case_log.log_one.Goals as goal
 
 pub returns-then-old-word : goal.returns-then-old-word

@@ -6,7 +6,6 @@ use lib.ListN.{length}
 use lib.Seq.{length-take-le}
 use Rattle.translate_blocks.specs.Log.{mark_at}
 use Rattle.translate_blocks.proofs.LogSteps.{put-copied, mark-merged}
-use borrow.Author.Rules.{rules}
 use Rattle.translate_blocks.proofs.case_log.merge_mark.Goals as goal
 
 pub slice_bounds-merge-end : goal.slice_bounds-merge-end

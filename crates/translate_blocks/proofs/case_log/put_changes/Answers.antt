@@ -1,11 +1,9 @@
 -- `translate_blocks::case_log::put_changes` meets its contract: at each turn the words passed are put. Assumes nothing.
-use mathlib.Core.Path.{◌≡◌, refl, ap₂, ◌∙◌}
-use Prim.Native.Nat.{ℕ, ◌-◌}
+use mathlib.Core.Path.{refl, ap₂, ◌∙◌}
+use Prim.Native.Nat.{ℕ}
 use native.Mathlib.Omega.{arith}
-use lib.ListN.{length, drop, set}
-use Rattle.translate_blocks.specs.Log.{put_words}
+use lib.ListN.{set}
 use Rattle.translate_blocks.proofs.LogSteps.{put-turn, put-done}
-use borrow.Author.Rules.{rules}
 use Rattle.translate_blocks.proofs.case_log.put_changes.Goals as goal
 
 pub loop-index-init : goal.loop-index-init

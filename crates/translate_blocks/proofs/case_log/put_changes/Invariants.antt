@@ -1,10 +1,7 @@
-use mathlib.Core.Path.{◌≡◌, refl, ap₂, ◌∙◌}
-use Prim.Native.Nat.{ℕ, ◌-◌}
-use native.Mathlib.Omega.{arith}
-use lib.ListN.{length, drop, set}
+use mathlib.Core.Path.{◌≡◌}
+use Prim.Native.Nat.{◌-◌}
+use lib.ListN.{length, drop}
 use Rattle.translate_blocks.specs.Log.{put_words}
-use Rattle.translate_blocks.proofs.LogSteps.{put-turn, put-done}
-use borrow.Author.Rules.{rules}
 use Rattle.translate_blocks.proofs.case_log.put_changes.Given as goal
 
 abbrev pub invariant-loop-index : goal.invariant-loop-index

@@ -1,12 +1,9 @@
 -- `translate_blocks::case_log::unwind` meets its contract: at each turn the items passed, from the end, are merged. Assumes nothing.
-use mathlib.Core.Path.{◌≡◌, sym, ◌∙◌}
-use mathlib.Core.List.{List}
-use Prim.Native.Nat.{◌+◌, ◌*◌, ◌-◌, ◌≤◌}
+use mathlib.Core.Path.{sym, ◌∙◌}
 use native.Mathlib.Omega.{arith}
-use lib.ListN.{length}
-use Rattle.translate_blocks.specs.Log.{Mark, merge_mark, Filed, mark_at}
+use Rattle.translate_blocks.specs.Log.{Mark, merge_mark, mark_at}
 use Rattle.translate_blocks.proofs.EmitLaws.{emits-length, emits-past}
-use Rattle.translate_blocks.proofs.LogSteps.{Unwinding, unwind-start, unwind-safe, unwind-turn, unwind-done, mark-few}
+use Rattle.translate_blocks.proofs.LogSteps.{unwind-start, unwind-safe, unwind-turn, unwind-done, mark-few}
 use Rattle.translate_blocks.proofs.case_log.unwind.Goals as goal
 
 pub loop-past-init : goal.loop-past-init

@@ -1,11 +1,9 @@
-use mathlib.Core.Path.{◌≡◌, sym, ◌∙◌}
+use mathlib.Core.Path.{◌≡◌}
 use mathlib.Core.List.{List}
 use Prim.Native.Nat.{◌+◌, ◌*◌, ◌-◌, ◌≤◌}
-use native.Mathlib.Omega.{arith}
 use lib.ListN.{length}
-use Rattle.translate_blocks.specs.Log.{Mark, merge_mark, Filed, mark_at}
-use Rattle.translate_blocks.proofs.EmitLaws.{emits-length, emits-past}
-use Rattle.translate_blocks.proofs.LogSteps.{Unwinding, unwind-start, unwind-safe, unwind-turn, unwind-done, mark-few}
+use Rattle.translate_blocks.specs.Log.{Mark, Filed}
+use Rattle.translate_blocks.proofs.LogSteps.{Unwinding}
 use Rattle.translate_blocks.proofs.case_log.unwind.Given as goal
 
 abbrev pub invariant-loop-past : goal.invariant-loop-past

@@ -1,6 +1,5 @@
 -- `translate_blocks::emit::emit` meets its contract: one cell is written. Assumes nothing.
 use Rattle.translate_blocks.proofs.EmitLaws.{emits_one}
-use borrow.Author.Rules.{rules}
 use Rattle.translate_blocks.proofs.emit.emit.Goals as goal
 
 pub returns : goal.returns

@@ -5,7 +5,6 @@ use lib.ListN.{get_or}
 use Rattle.netlist.specs.declared.Operand.{Operand}
 use Rattle.translate_blocks.specs.Words.{unpacked}
 use Rattle.translate_blocks.specs.Ends.{drive_slot}
-use borrow.Author.Rules.{rules}
 use Rattle.translate_blocks.proofs.ends.drive_of.Goals as goal
 
 pub returns : goal.returns

@@ -1,6 +1,5 @@
 -- `translate_blocks::ends::drive_slot` meets its contract: the test is the definition's. Assumes nothing.
 use borrow.Author.Tests.{eq-eqb, ne_eqb}
-use borrow.Author.Rules.{rules}
 use Rattle.translate_blocks.proofs.ends.drive_slot.Goals as goal
 
 pub returns-then-first-eq1 : goal.returns-then-first-eq1

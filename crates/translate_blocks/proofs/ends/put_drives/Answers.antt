@@ -1,10 +1,7 @@
 -- `translate_blocks::ends::put_drives` meets its contract: at each turn the drives of the variables passed are written. Assumes nothing.
-use Prim.Native.Nat.{◌-◌}
 use native.Mathlib.Omega.{arith}
-use lib.ListN.{length}
 use Rattle.tagged.proofs.WriteLaws.{wrote-length}
-use Rattle.translate_blocks.proofs.DriveTurns.{DrivesGoing, drives-start, drives-room, drives-turn, drives-done}
-use borrow.Author.Rules.{rules}
+use Rattle.translate_blocks.proofs.DriveTurns.{drives-start, drives-room, drives-turn, drives-done}
 use Rattle.translate_blocks.proofs.ends.put_drives.Goals as goal
 
 pub loop-variable-init : goal.loop-variable-init

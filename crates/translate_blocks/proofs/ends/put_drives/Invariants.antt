@@ -1,9 +1,6 @@
 use Prim.Native.Nat.{◌-◌}
-use native.Mathlib.Omega.{arith}
 use lib.ListN.{length}
-use Rattle.tagged.proofs.WriteLaws.{wrote-length}
-use Rattle.translate_blocks.proofs.DriveTurns.{DrivesGoing, drives-start, drives-room, drives-turn, drives-done}
-use borrow.Author.Rules.{rules}
+use Rattle.translate_blocks.proofs.DriveTurns.{DrivesGoing}
 use Rattle.translate_blocks.proofs.ends.put_drives.Given as goal
 
 abbrev pub invariant-loop-variable : goal.invariant-loop-variable

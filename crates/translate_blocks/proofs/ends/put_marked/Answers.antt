@@ -3,7 +3,6 @@ use mathlib.Core.Path.{sym, ap}
 use Rattle.netlist.specs.Form.{drive_bytes}
 use Rattle.netlist.proofs.PutLaws.{wrote_as}
 use Rattle.translate_blocks.proofs.DriveTurns.{wrote-unmarked, wrote-marked}
-use borrow.Author.Rules.{rules}
 use Rattle.translate_blocks.proofs.ends.put_marked.Goals as goal
 
 pub returns-then-mark-eq0 : goal.returns-then-mark-eq0

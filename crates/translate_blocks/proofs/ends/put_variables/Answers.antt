@@ -1,9 +1,6 @@
 -- `translate_blocks::ends::put_variables` meets its contract: at each turn the words of the variables passed are put. Assumes nothing.
-use mathlib.Core.Path.{◌≡◌, refl, ◌∙◌}
-use Prim.Native.Nat.{◌-◌}
-use lib.ListN.{length}
-use Rattle.translate_blocks.proofs.StartTurns.{StartGoing, start-begun, start-turn, start-done}
-use borrow.Author.Rules.{rules}
+use mathlib.Core.Path.{refl, ◌∙◌}
+use Rattle.translate_blocks.proofs.StartTurns.{start-begun, start-turn, start-done}
 use Rattle.translate_blocks.proofs.ends.put_variables.Goals as goal
 
 pub loop-variable-init : goal.loop-variable-init

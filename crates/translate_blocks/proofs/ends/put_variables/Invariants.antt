@@ -1,8 +1,7 @@
-use mathlib.Core.Path.{◌≡◌, refl, ◌∙◌}
+use mathlib.Core.Path.{◌≡◌}
 use Prim.Native.Nat.{◌-◌}
 use lib.ListN.{length}
-use Rattle.translate_blocks.proofs.StartTurns.{StartGoing, start-begun, start-turn, start-done}
-use borrow.Author.Rules.{rules}
+use Rattle.translate_blocks.proofs.StartTurns.{StartGoing}
 use Rattle.translate_blocks.proofs.ends.put_variables.Given as goal
 
 abbrev pub invariant-loop-variable : goal.invariant-loop-variable

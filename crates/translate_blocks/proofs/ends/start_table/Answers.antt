@@ -1,6 +1,5 @@
 -- `translate_blocks::ends::start_table` meets its contract: the two halves take all the room. Assumes nothing.
 use Rattle.translate_blocks.proofs.StartTurns.{start-both}
-use borrow.Author.Rules.{rules}
 use Rattle.translate_blocks.proofs.ends.start_table.Goals as goal
 
 pub returns : goal.returns

@@ -1,8 +1,6 @@
 -- `translate_blocks::expression::expression` and `expression_by` meet their contracts: by what is read at the front of a part, the depth left falling; an expression's
 use mathlib.Core.Path.{sym, ap, ◌∙◌}
-use borrow.Author.Rules.{rules}
 use native.Mathlib.Omega.{arith}
-use Prim.Native.Nat.{ℕ, ◌<◌, ◌+◌, ◌*◌}
 use lib.ListN.{length, length-drop}
 use Rattle.tagged.proofs.FieldLaws.{open-whole}
 use Rattle.verilog.proofs.FrontReading.{no-level, read-expression, read-other, read_none}

@@ -1,5 +1,4 @@
 -- `translate_blocks::expression::fixed_cell` meets its contract: the vector and the bit's number are read from the payload. Assumes nothing.
-use borrow.Author.Rules.{rules}
 use Rattle.translate_blocks.proofs.expression.fixed_cell.Goals as goal
 
 pub returns : goal.returns

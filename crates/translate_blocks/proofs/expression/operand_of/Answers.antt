@@ -2,7 +2,6 @@
 use mathlib.Core.Path.{ap, ◌∙◌}
 use Rattle.translate_blocks.specs.Words.{unpacked}
 use Rattle.translate_blocks.proofs.ExpressionEmits.{operand-unpacked}
-use borrow.Author.Rules.{rules}
 use Rattle.translate_blocks.proofs.expression.operand_of.Goals as goal
 
 pub returns : goal.returns

@@ -1,5 +1,4 @@
 -- `translate_blocks::expression::two_cell` meets its contract: the width is by the operator and its first operand. Assumes nothing.
-use borrow.Author.Rules.{rules}
 use Rattle.translate_blocks.proofs.expression.two_cell.Goals as goal
 
 pub returns : goal.returns

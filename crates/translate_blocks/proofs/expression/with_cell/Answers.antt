@@ -1,6 +1,5 @@
 -- `translate_blocks::expression::with_cell` meets its contract: the cell is written, and its number is how many there were. Assumes nothing.
 use Rattle.translate_blocks.proofs.ExpressionEmits.{cell-emitted}
-use borrow.Author.Rules.{rules}
 use Rattle.translate_blocks.proofs.expression.with_cell.Goals as goal
 
 pub returns : goal.returns

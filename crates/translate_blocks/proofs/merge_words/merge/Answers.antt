@@ -1,10 +1,7 @@
 -- `translate_blocks::merge_words::merge` meets its contract: at each turn the entries passed are merged. Assumes nothing.
-use Prim.Native.Nat.{◌-◌}
 use native.Mathlib.Omega.{arith}
-use lib.ListN.{length}
 use Rattle.translate_blocks.proofs.EmitLaws.{emits-length}
-use Rattle.translate_blocks.proofs.MergingSteps.{MergeGoing, merge-start, merge-room, merge-turn, merge-done}
-use borrow.Author.Rules.{rules}
+use Rattle.translate_blocks.proofs.MergingSteps.{merge-start, merge-room, merge-turn, merge-done}
 use Rattle.translate_blocks.proofs.merge_words.merge.Goals as goal
 
 pub loop-index-init : goal.loop-index-init

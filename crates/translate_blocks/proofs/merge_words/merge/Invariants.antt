@@ -1,9 +1,6 @@
 use Prim.Native.Nat.{◌-◌}
-use native.Mathlib.Omega.{arith}
 use lib.ListN.{length}
-use Rattle.translate_blocks.proofs.EmitLaws.{emits-length}
-use Rattle.translate_blocks.proofs.MergingSteps.{MergeGoing, merge-start, merge-room, merge-turn, merge-done}
-use borrow.Author.Rules.{rules}
+use Rattle.translate_blocks.proofs.MergingSteps.{MergeGoing}
 use Rattle.translate_blocks.proofs.merge_words.merge.Given as goal
 
 abbrev pub invariant-loop-index : goal.invariant-loop-index

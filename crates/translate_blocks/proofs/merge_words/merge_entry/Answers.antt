@@ -5,7 +5,6 @@ use Prim.Native.Nat.{ℕ}
 use Rattle.translate_blocks.specs.Words.{Written}
 use Rattle.translate_blocks.proofs.EmitLaws.{emits_none, emits-as}
 use Rattle.translate_blocks.proofs.MergingSteps.{entry-same, entry_other}
-use borrow.Author.Rules.{rules}
 use Rattle.translate_blocks.proofs.merge_words.merge_entry.Goals as goal
 
 pub returns-then-first-second : goal.returns-then-first-second

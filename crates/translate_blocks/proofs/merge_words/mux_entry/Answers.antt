@@ -1,5 +1,4 @@
 -- `translate_blocks::merge_words::mux_entry` meets its contract: the callees give the mux's parts. Assumes nothing.
-use borrow.Author.Rules.{rules}
 use Rattle.translate_blocks.proofs.merge_words.mux_entry.Goals as goal
 
 pub returns : goal.returns

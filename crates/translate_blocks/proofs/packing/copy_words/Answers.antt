@@ -1,10 +1,8 @@
 -- `translate_blocks::packing::copy_words` meets its contract: at each turn the words before the index are copied. Assumes nothing.
-use mathlib.Core.Path.{◌≡◌, refl, ap, ◌∙◌}
-use Prim.Native.Nat.{◌-◌, ◌≤◌}
+use mathlib.Core.Path.{refl, ap, ◌∙◌}
 use native.Mathlib.Omega.{arith}
-use lib.ListN.{length, take, set}
+use lib.ListN.{set}
 use Rattle.translate_blocks.proofs.PackingLaws.{copy-turn, copy_done}
-use borrow.Author.Rules.{rules}
 use Rattle.translate_blocks.proofs.packing.copy_words.Goals as goal
 
 pub loop-index-init : goal.loop-index-init

@@ -1,9 +1,6 @@
-use mathlib.Core.Path.{◌≡◌, refl, ap, ◌∙◌}
+use mathlib.Core.Path.{◌≡◌}
 use Prim.Native.Nat.{◌-◌, ◌≤◌}
-use native.Mathlib.Omega.{arith}
-use lib.ListN.{length, take, set}
-use Rattle.translate_blocks.proofs.PackingLaws.{copy-turn, copy_done}
-use borrow.Author.Rules.{rules}
+use lib.ListN.{length, take}
 use Rattle.translate_blocks.proofs.packing.copy_words.Given as goal
 
 abbrev pub invariant-loop-index : goal.invariant-loop-index

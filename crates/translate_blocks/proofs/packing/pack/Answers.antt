@@ -1,6 +1,5 @@
 -- `translate_blocks::packing::pack` meets its contract: each arm gives the word of the operand that led to it. Assumes nothing.
 use mathlib.Core.Path.{sym, ap, ◌∙◌}
-use borrow.Author.Rules.{rules}
 use Rattle.translate_blocks.specs.Words.{packed}
 use Rattle.translate_blocks.proofs.packing.pack.Goals as goal
 

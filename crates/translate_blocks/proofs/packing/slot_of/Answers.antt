@@ -1,6 +1,5 @@
 -- `translate_blocks::packing::slot_of` meets its contract: each arm gives the index for the kind that led to it. Assumes nothing.
 use mathlib.Core.Path.{sym, ap}
-use borrow.Author.Rules.{rules}
 use Rattle.tagged.specs.declared.sorts.Kind.{Kind}
 use Rattle.translate_blocks.specs.Words.{slot_of}
 use Rattle.translate_blocks.proofs.packing.slot_of.Goals as goal

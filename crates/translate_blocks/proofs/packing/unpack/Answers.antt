@@ -1,6 +1,5 @@
 -- `translate_blocks::packing::unpack` meets its contract: each arm tests the kind as the definition does. Assumes nothing.
 use mathlib.Core.Path.{sym}
-use borrow.Author.Rules.{rules}
 use Rattle.translate_blocks.proofs.PackingLaws.{unpacked-constant, unpacked-variable, unpacked-cell}
 use Rattle.translate_blocks.proofs.packing.unpack.Goals as goal
 

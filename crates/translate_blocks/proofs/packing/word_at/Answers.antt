@@ -1,7 +1,6 @@
 -- `translate_blocks::packing::word_at` meets its contract: past the end the list gives 0. Assumes nothing.
 use mathlib.Core.Path.{sym}
 use lib.ListN.{get_or-eq_default}
-use borrow.Author.Rules.{rules}
 use Rattle.translate_blocks.proofs.packing.word_at.Goals as goal
 
 pub returns-else-index-table : goal.returns-else-index-table

@@ -1,7 +1,6 @@
 -- `translator::passes::both_passes` meets its contract: it refuses by what the first pass measured, and else the second writes. Assumes nothing.
 use native.Mathlib.Omega.{arith}
 use Rattle.translator.proofs.PassSteps.{log-stays, at_least, at_most, over-cells, over-room, both-passed}
-use borrow.Author.Rules.{rules}
 use Rattle.translator.proofs.passes.both_passes.Goals as goal
 
 pub returns-in-Refused : goal.returns-in-Refused

@@ -3,7 +3,6 @@ use mathlib.Core.Path.{sym}
 use native.Mathlib.Omega.{arith}
 use lib.Seq.{length-take-le}
 use Rattle.translator.proofs.PassSteps.{whole-passed, head-past}
-use borrow.Author.Rules.{rules}
 use Rattle.translator.proofs.passes.pass.Goals as goal
 
 pub put_part-past-requires : goal.put_part-past-requires
