@@ -30,7 +30,8 @@ slice_bounds-row_answer-end c =
     let args = c.args in
     let pre = c.requires in
     let from = c.from in
-    sym (length-take-le variable-table.result.count variable-table.result.widths (widths-room args.file.now pre _ from.ensures variable-table.result variable-table.ensures))
+    sym (length-take-le variable-table.result.count variable-table.result.widths
+    (widths-room args.file.now pre _ from.ensures variable-table.result variable-table.ensures))
 
 pub row_answer-requires : goal.row_answer-requires
 row_answer-requires c =
@@ -47,4 +48,6 @@ returns c =
     let pre = c.requires in
     let from = c.from in
     let variable-table = c.variable_table-table in
-    row-answer.ensures ∙ ap (λ widths. row_answer widths args.row.now args.next_length) (widths-told args.file.now pre from.result.now from.ensures _ (widths-all (declarations_in from.result.now) variable-table.result variable-table.ensures (variables-told args.file.now pre from.result.now from.ensures)))
+    row-answer.ensures ∙ ap (λ widths. row_answer widths args.row.now args.next_length)
+    (widths-told args.file.now pre from.result.now from.ensures _
+    (widths-all (declarations_in from.result.now) variable-table.result variable-table.ensures (variables-told args.file.now pre from.result.now from.ensures)))

@@ -21,7 +21,8 @@ returns-in-Accepted-rows_answer c =
     let check = c.check in
     let rows-answer = c.rows_answer in
     let write-cycle = c.write_cycle in
-    run-accepted _ _ args.row.now args.next.now _ check.result check.ensures c.in-Accepted.is rows-answer.result rows-answer.ensures c.in-Accepted-rows_answer.is _ write-cycle.ensures
+    run-accepted _ _ args.row.now args.next.now _ check.result check.ensures c.in-Accepted.is
+    rows-answer.result rows-answer.ensures c.in-Accepted-rows_answer.is _ write-cycle.ensures
 
 pub returns-in-Refused-rows_answer : goal.returns-in-Refused-rows_answer
 unfolding run_answer run_leaves
@@ -29,7 +30,8 @@ returns-in-Refused-rows_answer c =
     let args = c.args in
     let check = c.check in
     let rows-answer = c.rows_answer in
-    row-refused _ _ args.row.now args.next.now _ check.result check.ensures c.in-Accepted.is rows-answer.result rows-answer.ensures _ _ c.in-Refused-rows_answer.is
+    row-refused _ _ args.row.now args.next.now _ check.result check.ensures c.in-Accepted.is
+    rows-answer.result rows-answer.ensures _ _ c.in-Refused-rows_answer.is
 
 pub returns-in-Refused : goal.returns-in-Refused
 unfolding run_answer run_leaves

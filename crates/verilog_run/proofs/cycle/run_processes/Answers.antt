@@ -14,4 +14,5 @@ returns c =
     let processes = c.processes in
     let settle = c.settle in
     let write-row = c.write_row in
-    write-row.ensures ∙ ap (λ (l : List ℕ). sets args.next.now 0 (row_bytes l)) (settle.ensures ∙ ap (settled_state args.firsts.now) processes.ensures)
+    write-row.ensures ∙ ap (λ (l : List ℕ). sets args.next.now 0 (row_bytes l))
+    (settle.ensures ∙ ap (settled_state args.firsts.now) processes.ensures)

@@ -29,11 +29,14 @@ pub survey-requires : goal.survey-requires
 survey-requires c =
     let args = c.args in
     let pre = c.requires in
-    let shared-slice-known = c.shared_slice_known-1 in
     let from = c.from-payload in
     let declared-bytes = c.declared_bytes in
     let from2 = c.from-list in
-    omega (arith, processes-long args.file.now args.row.now args.next.now (read-bytes args.file.now shared-slice-known.given) pre.0 pre.1 from.result.now from.ensures declared-bytes.result declared-bytes.ensures from2.result.now from2.ensures)
+    omega (
+      arith,
+      processes-long args.file.now args.row.now args.next.now (read-bytes args.file.now (search rules)) pre.0 pre.1
+          from.result.now from.ensures declared-bytes.result declared-bytes.ensures from2.result.now from2.ensures,
+    )
 
 pub slice_bounds-widths-end : goal.slice_bounds-widths-end
 slice_bounds-widths-end c =
@@ -49,7 +52,8 @@ slice_bounds-run_processes-end c =
     let pre = c.requires in
     let from = c.from-payload in
     let variable-table = c.variable_table-table in
-    sym (length-take-le variable-table.result.count variable-table.result.widths (widths-room args.file.now pre.0 _ from.ensures variable-table.result variable-table.ensures))
+    sym (length-take-le variable-table.result.count variable-table.result.widths
+    (widths-room args.file.now pre.0 _ from.ensures variable-table.result variable-table.ensures))
 
 pub slice_bounds-current-end : goal.slice_bounds-current-end
 slice_bounds-current-end c =
@@ -58,7 +62,13 @@ slice_bounds-current-end c =
     let from = c.from-payload in
     let variable-table = c.variable_table-table in
     let read-row = c.read_row in
-    omega (arith, count_fits (declarations_in from.result.now) variable-table.result variable-table.ensures (variables-told args.file.now pre.0 from.result.now from.ensures), numbers-length 64 args.row.now, ap length read-row.ensures)
+    omega (
+      arith,
+      count_fits (declarations_in from.result.now) variable-table.result variable-table.ensures
+          (variables-told args.file.now pre.0 from.result.now from.ensures),
+      numbers-length 64 args.row.now,
+      ap length read-row.ensures,
+    )
 
 pub slice_bounds-run_processes-end-3 : goal.slice_bounds-run_processes-end-3
 slice_bounds-run_processes-end-3 c =
@@ -67,7 +77,14 @@ slice_bounds-run_processes-end-3 c =
     let from = c.from-payload in
     let variable-table = c.variable_table-table in
     let read-row = c.read_row in
-    sym (length-take-le variable-table.result.count _ (omega (arith, count_fits (declarations_in from.result.now) variable-table.result variable-table.ensures (variables-told args.file.now pre.0 from.result.now from.ensures), numbers-length 64 args.row.now, ap length read-row.ensures)))
+    sym (length-take-le variable-table.result.count _
+    (omega (
+      arith,
+      count_fits (declarations_in from.result.now) variable-table.result variable-table.ensures
+          (variables-told args.file.now pre.0 from.result.now from.ensures),
+      numbers-length 64 args.row.now,
+      ap length read-row.ensures,
+    )))
 
 pub slice_bounds-pending-end : goal.slice_bounds-pending-end
 slice_bounds-pending-end c =
@@ -76,7 +93,13 @@ slice_bounds-pending-end c =
     let from = c.from-payload in
     let variable-table = c.variable_table-table in
     let read-row = c.read_row in
-    omega (arith, count_fits (declarations_in from.result.now) variable-table.result variable-table.ensures (variables-told args.file.now pre.0 from.result.now from.ensures), numbers-length 64 args.row.now, ap length read-row.ensures)
+    omega (
+      arith,
+      count_fits (declarations_in from.result.now) variable-table.result variable-table.ensures
+          (variables-told args.file.now pre.0 from.result.now from.ensures),
+      numbers-length 64 args.row.now,
+      ap length read-row.ensures,
+    )
 
 pub slice_bounds-run_processes-end-4 : goal.slice_bounds-run_processes-end-4
 slice_bounds-run_processes-end-4 c =
@@ -85,25 +108,43 @@ slice_bounds-run_processes-end-4 c =
     let from = c.from-payload in
     let variable-table = c.variable_table-table in
     let read-row = c.read_row in
-    sym (length-take-le variable-table.result.count _ (omega (arith, count_fits (declarations_in from.result.now) variable-table.result variable-table.ensures (variables-told args.file.now pre.0 from.result.now from.ensures), numbers-length 64 args.row.now, ap length read-row.ensures)))
+    sym (length-take-le variable-table.result.count _
+    (omega (
+      arith,
+      count_fits (declarations_in from.result.now) variable-table.result variable-table.ensures
+          (variables-told args.file.now pre.0 from.result.now from.ensures),
+      numbers-length 64 args.row.now,
+      ap length read-row.ensures,
+    )))
 
 pub run_processes-requires : goal.run_processes-requires
 run_processes-requires c =
     let args = c.args in
     let pre = c.requires in
-    let shared-slice-known = c.shared_slice_known-1 in
     let from = c.from-payload in
     let declared-bytes = c.declared_bytes in
     let from2 = c.from-list in
     let variable-table = c.variable_table-table in
-    let read-row = c.read_row in
-    (omega (arith, processes-long args.file.now args.row.now args.next.now (read-bytes args.file.now shared-slice-known.given) pre.0 pre.1 from.result.now from.ensures declared-bytes.result declared-bytes.ensures from2.result.now from2.ensures), omega (arith, count_fits (declarations_in from.result.now) variable-table.result variable-table.ensures (variables-told args.file.now pre.0 from.result.now from.ensures), length-take variable-table.result.count read-row.new.values), refl, search rules)
+    let read-row = c.read_row in (
+      omega (
+        arith,
+        processes-long args.file.now args.row.now args.next.now (read-bytes args.file.now (search rules)) pre.0 pre.1
+            from.result.now from.ensures declared-bytes.result declared-bytes.ensures from2.result.now from2.ensures,
+      ),
+      omega (
+        arith,
+        count_fits (declarations_in from.result.now) variable-table.result variable-table.ensures
+            (variables-told args.file.now pre.0 from.result.now from.ensures),
+        length-take variable-table.result.count read-row.new.values,
+      ),
+      refl,
+      search rules,
+    )
 
 pub returns : goal.returns
 returns c =
     let args = c.args in
     let pre = c.requires in
-    let shared-slice-known = c.shared_slice_known-1 in
     let from = c.from-payload in
     let declared-bytes = c.declared_bytes in
     let from2 = c.from-list in
@@ -111,4 +152,6 @@ returns c =
     let survey = c.survey in
     let read-row = c.read_row in
     let run-processes = c.run_processes in
-    cycle-written args.file.now args.row.now args.next.now (read-bytes args.file.now shared-slice-known.given) pre.0 pre.1 from.result.now from.ensures declared-bytes.result declared-bytes.ensures from2.result.now from2.ensures variable-table.result variable-table.ensures _ refl (zeros-at 64) _ survey.ensures _ read-row.ensures _ run-processes.ensures
+    cycle-written args.file.now args.row.now args.next.now (read-bytes args.file.now (search rules)) pre.0 pre.1 from.result.now from.ensures
+    declared-bytes.result declared-bytes.ensures from2.result.now from2.ensures variable-table.result variable-table.ensures
+    _ refl (zeros-at 64) _ survey.ensures _ read-row.ensures _ run-processes.ensures

@@ -47,9 +47,7 @@ front_block-slice_bounds-block-end t c = omega (arith, (open-whole _ _ _ (sym c.
 
 pub front_block-block-requires : goal.front_block-block-requires
 front_block-block-requires t c =
-    let open-field = c.open_field in
-    let block-arg = c.block-arg-1 in
-    omega (arith, (open-whole _ _ _ (sym open-field.ensures ∙ c.in-Field.is)).within, block-arg.given)
+    omega (arith, (open-whole _ _ _ (sym c.open_field.ensures ∙ c.in-Field.is)).within)
 
 pub front_block-returns-in-Field : goal.front_block-returns-in-Field
 front_block-returns-in-Field t c =
