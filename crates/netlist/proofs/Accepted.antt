@@ -12,9 +12,7 @@ use Rattle.tagged.specs.Fields.{field_bytes, size_of}
 use Rattle.tagged.specs.Files.{file_answer}
 use Rattle.tagged.specs.declared.sorts.Sort.TheVariants as Sort
 use Rattle.tagged.specs.declared.fields.Step.{Step}
-use Rattle.tagged.specs.declared.fields.Step.TheVariants as Step
 use Rattle.tagged.specs.declared.answers.Answer.{Answer}
-use Rattle.tagged.specs.declared.answers.Answer.TheVariants as Answer
 use Rattle.tagged.proofs.ListBytes.{field-whole, field-length}
 use Rattle.netlist.specs.Lists.{Netlist}
 use Rattle.netlist.specs.Form.{netlist_payload, netlist_bytes, netlist_form}

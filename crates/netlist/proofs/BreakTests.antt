@@ -12,11 +12,8 @@ use Rattle.words.specs.Operators.{one_width, two_width}
 use Rattle.tagged.specs.Fields.{placed_by}
 use Rattle.tagged.specs.Declarations.{Declaration, declaration_bytes, declaration_breaks, variable_width}
 use Rattle.tagged.specs.declared.answers.Rule.{Rule}
-use Rattle.tagged.specs.declared.answers.Rule.TheVariants as Rule
 use Rattle.netlist.specs.declared.Operand.{Operand}
-use Rattle.netlist.specs.declared.Operand.TheVariants as Operand
 use Rattle.netlist.specs.declared.Cell.{Cell}
-use Rattle.netlist.specs.declared.Cell.TheVariants as Cell
 use Rattle.netlist.specs.declared.Drive.{Drive}
 use Rattle.netlist.specs.Lists.{Netlist, operand_width, cell_width, cell_slots, operands_in}
 use Rattle.netlist.specs.Form.{cell_bytes, drive_bytes}

@@ -25,9 +25,7 @@ use Rattle.tagged.specs.Declarations as declarations
 use Rattle.tagged.specs.Declarations.{Declaration, input, register}
 use Rattle.tagged.proofs.Cases.{answering}
 use Rattle.netlist.specs.declared.Operand.{Operand}
-use Rattle.netlist.specs.declared.Operand.TheVariants as Operand
 use Rattle.netlist.specs.declared.Cell.{Cell}
-use Rattle.netlist.specs.declared.Cell.TheVariants as Cell
 use Rattle.netlist.specs.declared.Drive.{Drive}
 use Rattle.netlist.specs.Form as form
 use Rattle.netlist.specs.Form.{netlist_bytes}

@@ -14,11 +14,8 @@ use Rattle.tagged.specs.Bytes.{AllBytes, four_bytes, four_of}
 use Rattle.tagged.specs.Sorts.{tag_of, is_cell, is_sort}
 use Rattle.tagged.specs.Fields.{field_bytes, all_bytes_of, fixed_then, ended}
 use Rattle.tagged.specs.declared.sorts.CellSort.{CellSort}
-use Rattle.tagged.specs.declared.sorts.CellSort.TheVariants as CellSort
 use Rattle.tagged.specs.declared.sorts.Sort.{Sort}
-use Rattle.tagged.specs.declared.sorts.Sort.TheVariants as Sort
 use Rattle.tagged.specs.declared.fields.Judged.{Judged}
-use Rattle.tagged.specs.declared.fields.Judged.TheVariants as Judged
 use Rattle.tagged.proofs.ByteLaws.{front, bytes-four, four-front, four-lt, bytes_drop}
 use Rattle.tagged.proofs.SortLaws.{is-itself}
 use Rattle.tagged.proofs.AllBytesLaws.{bytes-none, bytes-cons, four_bytes_lem, field-bytes, all-bytes}
@@ -27,9 +24,7 @@ use Rattle.tagged.proofs.RunLaws.{Known, sort-known}
 use Rattle.tagged.proofs.AnyPlace.{AnywhereBody, AnywhereJudge, fixed-anywhere, ended-anywhere}
 use Rattle.tagged.proofs.ListBytes.{Stands, field-length}
 use Rattle.netlist.specs.declared.Operand.{Operand}
-use Rattle.netlist.specs.declared.Operand.TheVariants as Operand
 use Rattle.netlist.specs.declared.Cell.{Cell}
-use Rattle.netlist.specs.declared.Cell.TheVariants as Cell
 use Rattle.netlist.specs.declared.Drive.{Drive}
 use Rattle.netlist.specs.Lists.{Slot, operand, byte, cell_sort_of, cell_width, cell_slots}
 use Rattle.netlist.specs.Form.{operand_bytes, slot_bytes, cell_bytes, drive_bytes, Shape, an_operand, a_byte, shape_of, slots_by, cell_body, drive_body}

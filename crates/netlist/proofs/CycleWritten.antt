@@ -12,7 +12,6 @@ use Rattle.tagged.specs.Runs.{row_left}
 use Rattle.tagged.specs.Rows.{row_bytes, row_numbers, row_answer}
 use Rattle.tagged.specs.declared.answers.Answer.TheVariants as Answer
 use Rattle.tagged.specs.declared.fields.Step.{Step}
-use Rattle.tagged.specs.declared.fields.Step.TheVariants as Step
 use Rattle.tagged.proofs.FieldLaws.{field-passed}
 use Rattle.tagged.proofs.JudgeLaws.{then-tells}
 use Rattle.tagged.proofs.FileLaws.{file-fits}

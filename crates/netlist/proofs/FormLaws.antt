@@ -1,26 +1,19 @@
 -- Laws of refusal 2 on netlists, in the form in which code asks them: the slots of a payload, the sorts that a match found, and what was passed.
-use mathlib.Core.Path.{◌≡◌, refl, sym, ap, ◌∙◌, subst}
+use mathlib.Core.Path.{◌≡◌, refl, sym, ap, ◌∙◌}
 use mathlib.Core.Bool.{Bool, true, false, cond, ◌&&◌, true≢false}
 use mathlib.Core.List.{List, [], ◌∷◌}
 use Prim.Native.Nat.{ℕ, ◌+◌, ◌≤◌, ◌<◌}
 use lib.Dec.{leb}
 use lib.ListN.{length, get_or, drop}
 use borrow.Author.Tests.{leb-true, leb-false, eq-eqb}
-use types.Run.{OneOf, miss}
-use denote.Enum.Declared as enums
 use Rattle.tagged.specs.Sorts.{tag_of, is_cell, is_sort}
 use Rattle.tagged.specs.Fields.{then_by, fixed_then, ended}
 use Rattle.tagged.specs.Declarations.{declarations_step}
 use Rattle.tagged.specs.declared.sorts.CellSort.{CellSort}
-use Rattle.tagged.specs.declared.sorts.CellSort.TheVariants as CellSort
 use Rattle.tagged.specs.declared.sorts.Sort.{Sort}
-use Rattle.tagged.specs.declared.sorts.Sort.TheVariants as Sort
 use Rattle.tagged.specs.declared.fields.Judged.{Judged}
-use Rattle.tagged.specs.declared.fields.Judged.TheVariants as Judged
 use Rattle.tagged.specs.declared.fields.Step.{Step}
-use Rattle.tagged.specs.declared.fields.Step.TheVariants as Step
 use Rattle.tagged.proofs.RunLaws.{many-within}
-use Rattle.tagged.specs.contracts.sorts.Sort as sorts
 use Rattle.tagged.proofs.ByteLaws.{rest}
 use Rattle.tagged.proofs.SortLaws.{same-sort}
 use Rattle.tagged.proofs.TestLaws.{both, not-both}

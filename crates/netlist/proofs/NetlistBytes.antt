@@ -15,15 +15,10 @@ use Rattle.tagged.specs.Fields.{field_bytes, all_bytes_of, size_of, field_by, th
 use Rattle.tagged.specs.Files.{file_answer}
 use Rattle.tagged.specs.Declarations.{Declaration, input, register, declaration_bytes, declaration_body, declarations_step, declaration_read, declarations_at, declarations_in, after_declarations}
 use Rattle.tagged.specs.declared.sorts.DeclarationSort.{DeclarationSort}
-use Rattle.tagged.specs.declared.sorts.DeclarationSort.TheVariants as DeclarationSort
 use Rattle.tagged.specs.declared.sorts.Sort.{Sort}
-use Rattle.tagged.specs.declared.sorts.Sort.TheVariants as Sort
 use Rattle.tagged.specs.declared.fields.Judged.{Judged}
-use Rattle.tagged.specs.declared.fields.Judged.TheVariants as Judged
 use Rattle.tagged.specs.declared.fields.Step.{Step}
-use Rattle.tagged.specs.declared.fields.Step.TheVariants as Step
 use Rattle.tagged.specs.declared.answers.Answer.{Answer}
-use Rattle.tagged.specs.declared.answers.Answer.TheVariants as Answer
 use Rattle.tagged.proofs.ByteLaws.{four-lt, bytes_drop}
 use Rattle.tagged.proofs.SortLaws.{tag_back, same-sort}
 use Rattle.tagged.proofs.FieldLaws.{field-passed, passed-field}

@@ -1,27 +1,19 @@
 -- The next cell or drive of a list: a match that found another sort, and one turn of a walk over the list.
-use mathlib.Core.Path.{◌≡◌, refl, sym, ap, subst, ◌∙◌}
+use mathlib.Core.Path.{◌≡◌, refl, sym, ap, ◌∙◌}
 use mathlib.Core.Bool.{Bool, true, false, cond, true≢false}
 use mathlib.Core.List.{List, [], ◌∷◌}
 use Prim.Native.Nat.{ℕ, ◌+◌}
 use native.Mathlib.Omega.{arith}
 use lib.ListN.{take, drop}
-use types.Run.{OneOf, miss}
-use denote.Enum.Declared as enums
 use Rattle.tagged.specs.Sorts.{tag_of, on_cell, is_cell, is_sort}
 use Rattle.tagged.specs.Fields.{open_of, on_field, read_placed, unplaced}
 use Rattle.tagged.specs.declared.sorts.CellSort.{CellSort}
 use Rattle.tagged.specs.declared.sorts.Sort.{Sort}
-use Rattle.tagged.specs.declared.sorts.Sort.TheVariants as Sort
 use Rattle.tagged.specs.declared.fields.Opened.{Opened}
-use Rattle.tagged.specs.declared.fields.Opened.TheVariants as Opened
-use Rattle.tagged.specs.contracts.sorts.Sort as sorts
 use Rattle.tagged.proofs.FieldLaws.{Whole, open-whole}
 use Rattle.tagged.proofs.ListLaws.{read-end, read-stop, read_more, read-anywhere}
-use Rattle.netlist.specs.declared.Cell.{Cell}
 use Rattle.netlist.specs.declared.reading.NextCell.{NextCell}
-use Rattle.netlist.specs.declared.reading.NextCell.TheVariants as NextCell
 use Rattle.netlist.specs.declared.reading.NextDrive.{NextDrive}
-use Rattle.netlist.specs.declared.reading.NextDrive.TheVariants as NextDrive
 use Rattle.netlist.specs.Reading.{cell_in, cell_read, drive_in, drive_read, next_cell_in, next_drive_in, cells_at, drives_at}
 use Rattle.netlist.proofs.CellBytes.{cell-sort}
 use Rattle.tagged.proofs.SortLaws.{same-sort}

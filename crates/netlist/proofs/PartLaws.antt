@@ -7,10 +7,8 @@ use lib.ListN.{length, take, drop, length-drop}
 use Rattle.tagged.specs.Fields.{size_of, passed_bytes}
 use Rattle.tagged.specs.Declarations.{after_declarations, declarations_step}
 use Rattle.tagged.specs.declared.sorts.CellSort.{CellSort}
-use Rattle.netlist.specs.declared.Cell.{Cell}
 use Rattle.tagged.specs.declared.parts.Part.{Part}
 use Rattle.netlist.specs.declared.reading.NextCell.{NextCell}
-use Rattle.netlist.specs.declared.reading.NextCell.TheVariants as NextCell
 use Rattle.netlist.specs.Reading.{next_cell_in, cells_at}
 use Rattle.netlist.specs.Parts.{first_part, part_in, cell_part}
 use Rattle.tagged.proofs.PartLaws.{drop-none, drop-one, declared-within}

@@ -14,11 +14,8 @@ use Rattle.tagged.specs.Refusals.{first_broken, or_else, found_if, first_refusal
 use Rattle.tagged.specs.Answers.{number_of}
 use Rattle.tagged.specs.Declarations.{Declaration, variable_width, declaration_broken}
 use Rattle.tagged.specs.declared.answers.Answer.{Answer}
-use Rattle.tagged.specs.declared.answers.Answer.TheVariants as Answer
 use Rattle.tagged.specs.declared.answers.Found.{Found}
-use Rattle.tagged.specs.declared.answers.Found.TheVariants as Found
 use Rattle.tagged.specs.declared.answers.Rule.{Rule}
-use Rattle.tagged.specs.declared.answers.Rule.TheVariants as Rule
 use Rattle.tagged.proofs.DeclarationSizes.{variables-few}
 use Rattle.tagged.proofs.RefusalLaws.{Rising, order-rising, nowhere-both, Agrees, agree-none, agree-more, same-refusal}
 use Rattle.tagged.proofs.LowerLaws.{lower-accepted, lower-joined, refusal-both, refusal-same, answer-front}

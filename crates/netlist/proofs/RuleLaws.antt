@@ -11,7 +11,6 @@ use Rattle.tagged.specs.Bytes.{two_bytes}
 use Rattle.tagged.specs.Fields.{field_bytes, all_bytes_of}
 use Rattle.tagged.specs.Declarations.{declaration_bytes}
 use Rattle.netlist.specs.declared.Cell.{Cell}
-use Rattle.netlist.specs.declared.Cell.TheVariants as Cell
 use Rattle.netlist.specs.Lists.{Netlist}
 use Rattle.netlist.specs.Form.{operand_bytes, cell_bytes, drive_bytes, netlist_payload}
 use Rattle.netlist.specs.Rules.{cell_outside}

@@ -14,9 +14,7 @@ use Rattle.tagged.specs.Declarations.{declaration_breaks, declaration_broken, de
 use Rattle.tagged.specs.Answers.{number_of}
 use Rattle.tagged.specs.declared.declarations.VariableTable.{VariableTable}
 use Rattle.tagged.specs.declared.answers.Answer.{Answer}
-use Rattle.tagged.specs.declared.answers.Answer.TheVariants as Answer
 use Rattle.tagged.specs.declared.answers.Rule.{Rule}
-use Rattle.tagged.specs.declared.answers.Rule.TheVariants as Rule
 use Rattle.tagged.specs.declared.fields.Step.TheVariants as Step
 use Rattle.tagged.proofs.FileLaws.{file-fits}
 use Rattle.tagged.proofs.LowerLaws.{refusal-same}

@@ -12,7 +12,6 @@ use Rattle.tagged.specs.Declarations.{table_of}
 use Rattle.tagged.specs.declared.fields.Step.TheVariants as Step
 use Rattle.tagged.specs.declared.sorts.CellSort.{CellSort}
 use Rattle.tagged.specs.declared.sorts.Sort.{Sort}
-use Rattle.tagged.specs.declared.sorts.Sort.TheVariants as Sort
 use Rattle.tagged.proofs.ByteLaws.{rest}
 use Rattle.tagged.proofs.FieldLaws.{Whole, whole_open}
 use Rattle.tagged.proofs.ListBytes.{Run, stop, more, many-run}
@@ -21,9 +20,7 @@ use Rattle.tagged.proofs.DeclarationWalks.{step, payload}
 use Rattle.netlist.specs.declared.Cell.{Cell}
 use Rattle.netlist.specs.declared.Drive.{Drive}
 use Rattle.netlist.specs.declared.reading.NextCell.{NextCell}
-use Rattle.netlist.specs.declared.reading.NextCell.TheVariants as NextCell
 use Rattle.netlist.specs.declared.reading.NextDrive.{NextDrive}
-use Rattle.netlist.specs.declared.reading.NextDrive.TheVariants as NextDrive
 use Rattle.netlist.specs.Form.{cell_body, cells_step}
 use Rattle.netlist.specs.Reading.{cell_in, drive_in, next_cell_in, next_drive_in, cells_at, drives_at}
 use Rattle.netlist.proofs.CellBytes.{cell-sort}

@@ -13,9 +13,7 @@ use Rattle.tagged.specs.Names.{same_name}
 use Rattle.tagged.specs.Declarations.{Declaration, input, register}
 use Rattle.tagged.proofs.NameLaws.{same-equal}
 use Rattle.netlist.specs.declared.Operand.{Operand}
-use Rattle.netlist.specs.declared.Operand.TheVariants as Operand
 use Rattle.netlist.specs.declared.Cell.{Cell}
-use Rattle.netlist.specs.declared.Cell.TheVariants as Cell
 use Rattle.netlist.specs.declared.Drive.{Drive}
 use Rattle.netlist.specs.Lists.{Netlist}
 use Rattle.netlist.specs.Cycle.{operand_value, cell_value, cell_values, driven, netlist_cycle}

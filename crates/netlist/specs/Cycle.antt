@@ -5,9 +5,7 @@ use Rattle.words.specs.Operators.{one_width, one_number, two_width, two_number}
 use Rattle.words.specs.Values.{Value, Outcome, got, ◌>>=◌, provided}
 use Rattle.tagged.specs.Declarations.{Declaration, variable_width, register_at}
 use Rattle.netlist.specs.declared.Operand.{Operand}
-use Rattle.netlist.specs.declared.Operand.TheVariants as Operand
 use Rattle.netlist.specs.declared.Cell.{Cell}
-use Rattle.netlist.specs.declared.Cell.TheVariants as Cell
 use Rattle.netlist.specs.declared.Drive.{Drive}
 use Rattle.netlist.specs.Lists.{Netlist}
 

@@ -4,7 +4,6 @@ use Rattle.tagged.specs.Limits.{longest_netlist}
 use Rattle.tagged.specs.Declarations.{Declaration, width_of, name_of, initial_of, declaration_payload}
 use Rattle.tagged.specs.declared.answers.Answer.TheVariants as Answer
 use Rattle.netlist.specs.declared.Operand.{Operand}
-use Rattle.netlist.specs.declared.Operand.TheVariants as Operand
 use Rattle.netlist.specs.declared.Cell.{Cell}
 use Rattle.netlist.specs.declared.Drive.{Drive}
 use Rattle.netlist.specs.Lists.{Netlist, Slot, operand, byte, operand_width, cell_width, cell_slots}

@@ -5,9 +5,7 @@ use Rattle.words.specs.Results.{one_result, two_result, put_result}
 use Rattle.tagged.specs.Fields.{unplaced}
 use Rattle.tagged.specs.declared.fields.Step.TheVariants as Step
 use Rattle.netlist.specs.declared.Operand.{Operand}
-use Rattle.netlist.specs.declared.Operand.TheVariants as Operand
 use Rattle.netlist.specs.declared.Cell.{Cell}
-use Rattle.netlist.specs.declared.Cell.TheVariants as Cell
 use Rattle.netlist.specs.declared.Drive.{Drive}
 use Rattle.netlist.specs.Form.{cells_step}
 use Rattle.netlist.specs.Reading.{cells_at}

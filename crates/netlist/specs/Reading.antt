@@ -6,18 +6,12 @@ use Rattle.tagged.specs.Sorts.{on_cell, is_cell, is_sort}
 use Rattle.tagged.specs.Fields.{open_of, on_field, passed_bytes, Placed, read_placed, unplaced}
 use Rattle.tagged.specs.Declarations.{after_declarations, declarations_in}
 use Rattle.tagged.specs.declared.sorts.CellSort.{CellSort}
-use Rattle.tagged.specs.declared.sorts.CellSort.TheVariants as CellSort
 use Rattle.tagged.specs.declared.sorts.Sort.{Sort}
-use Rattle.tagged.specs.declared.sorts.Sort.TheVariants as Sort
 use Rattle.netlist.specs.declared.Operand.{Operand}
-use Rattle.netlist.specs.declared.Operand.TheVariants as Operand
 use Rattle.netlist.specs.declared.Cell.{Cell}
-use Rattle.netlist.specs.declared.Cell.TheVariants as Cell
 use Rattle.netlist.specs.declared.Drive.{Drive}
 use Rattle.netlist.specs.declared.reading.NextCell.{NextCell}
-use Rattle.netlist.specs.declared.reading.NextCell.TheVariants as NextCell
 use Rattle.netlist.specs.declared.reading.NextDrive.{NextDrive}
-use Rattle.netlist.specs.declared.reading.NextDrive.TheVariants as NextDrive
 use Rattle.netlist.specs.Lists.{Netlist}
 use Rattle.netlist.specs.Form.{cells_step}
 

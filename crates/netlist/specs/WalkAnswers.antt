@@ -4,9 +4,7 @@ use Rattle.tagged.specs.Fields.{passed_bytes, Placed, placed_by}
 use Rattle.tagged.specs.Refusals.{first_broken, found_if, refused_at, first_refusal, lower_refusal}
 use Rattle.tagged.specs.Declarations.{Declaration, width_of}
 use Rattle.tagged.specs.declared.answers.Rule.{Rule}
-use Rattle.tagged.specs.declared.answers.Rule.TheVariants as Rule
 use Rattle.tagged.specs.declared.answers.Answer.{Answer}
-use Rattle.tagged.specs.declared.answers.Answer.TheVariants as Answer
 use Rattle.netlist.specs.declared.Operand.{Operand}
 use Rattle.netlist.specs.declared.Cell.{Cell}
 use Rattle.netlist.specs.Lists.{Netlist}

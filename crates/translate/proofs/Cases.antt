@@ -17,7 +17,6 @@ use Rattle.tagged.specs.Refusals as refusals
 use Rattle.tagged.specs.Declarations as declarations
 use Rattle.tagged.specs.Declarations.{Declaration, input, register}
 use Rattle.tagged.specs.declared.sorts.Kind.{Kind}
-use Rattle.tagged.specs.declared.sorts.Kind.TheVariants as Kind
 use Rattle.netlist.specs.Form as netlist_form
 use Rattle.netlist.specs.Rules as netlist_rules
 use Rattle.netlist.specs.Answer.{lists_answer, netlist_answer}

@@ -15,7 +15,6 @@ use Rattle.netlist.specs.Lists.{operand_width}
 use Rattle.netlist.specs.Rules.{cell_unlike, cell_outside, cell_breaks}
 use Rattle.netlist.specs.declared.Operand.{Operand}
 use Rattle.netlist.specs.declared.Cell.{Cell}
-use Rattle.netlist.specs.declared.Cell.TheVariants as Cell
 use Rattle.translate.proofs.Operands.{GoodOperand}
 
 module _ (ds : List Declaration) where

@@ -14,7 +14,6 @@ use Rattle.tagged.specs.Rows.{all_fit}
 use Rattle.netlist.specs.Cycle.{operand_value, driven}
 use Rattle.netlist.specs.Rules.{registers_from}
 use Rattle.netlist.specs.declared.Operand.{Operand}
-use Rattle.netlist.specs.declared.Operand.TheVariants as Operand
 use Rattle.verilog.specs.Tree.{Module}
 use Rattle.verilog.specs.Cycle.{delays_any, settled}
 use Rattle.translate.specs.Tables.{Tables, operand_at}

@@ -12,7 +12,6 @@ use Rattle.tagged.specs.Declarations.{Declaration, width_of, variable_width}
 use Rattle.netlist.specs.Lists.{operand_width, cell_width}
 use Rattle.netlist.specs.declared.Operand.{Operand}
 use Rattle.netlist.specs.declared.Cell.{Cell}
-use Rattle.netlist.specs.declared.Cell.TheVariants as Cell
 use Rattle.verilog.specs.Tree.{Expression}
 use Rattle.verilog.specs.Rules.{expression_width}
 use Rattle.verilog.proofs.Typed.{Typed, constant-fits, variable-there, bit-inside, index-inside, one_typed, two_typed}

@@ -21,7 +21,6 @@ use Rattle.tagged.specs.Declarations.{Declaration, variable_width}
 use Rattle.netlist.specs.Cycle.{operand_value, cell_value}
 use Rattle.netlist.specs.declared.Operand.{Operand}
 use Rattle.netlist.specs.declared.Cell.{Cell}
-use Rattle.netlist.specs.declared.Cell.TheVariants as Cell
 use Rattle.verilog.specs.Tree.{Expression, constant, variable, fixed_bit, chosen_bit, one, two}
 use Rattle.verilog.specs.Rules.{expression_width}
 use Rattle.verilog.specs.Cycle.{evaluate}

@@ -13,12 +13,10 @@ use Rattle.words.specs.declared.TwoOperand.TheVariants as two-operand
 use Rattle.words.specs.Operators.{one_width, two_width}
 use Rattle.tagged.specs.Declarations.{Declaration}
 use Rattle.tagged.specs.declared.sorts.Kind.{Kind}
-use Rattle.tagged.specs.declared.sorts.Kind.TheVariants as Kind
 use Rattle.netlist.specs.Lists.{operand_width}
 use Rattle.netlist.specs.Fits.{FitsOperand, Every}
 use Rattle.netlist.specs.declared.Operand.{Operand}
 use Rattle.netlist.specs.declared.Cell.{Cell}
-use Rattle.netlist.specs.declared.Cell.TheVariants as Cell
 use Rattle.verilog.specs.Tree.{Expression, constant, variable, fixed_bit, chosen_bit, one, two}
 use Rattle.verilog.specs.Fits.{FitsExpression, FitsDeclaration, All}
 use Rattle.translate.specs.Tables.{Tables, themselves, operand_at, held_operand, replaced, same_operand, Merged, kept, muxed, merge, merge_tables}

@@ -9,7 +9,6 @@ use Rattle.tagged.specs.Declarations.{Declaration, width_of}
 use Rattle.netlist.specs.Lists.{operand_width}
 use Rattle.netlist.specs.declared.Operand.{Operand}
 use Rattle.netlist.specs.declared.Cell.{Cell}
-use Rattle.netlist.specs.declared.Cell.TheVariants as Cell
 use Rattle.translate.specs.Tables.{Tables, same_operand, Merged, kept, muxed, merge, Translated, merge_tables}
 use Rattle.translate.specs.Translation.{after, joined}
 use Rattle.tagged.proofs.PassLaws.{EachAfter, none_after, more-after, each_append}

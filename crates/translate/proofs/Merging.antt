@@ -15,9 +15,7 @@ use Rattle.tagged.specs.Declarations.{Declaration, width_of, is_register}
 use Rattle.netlist.specs.Lists.{operand_width}
 use Rattle.netlist.specs.Cycle.{cell_value}
 use Rattle.netlist.specs.declared.Operand.{Operand}
-use Rattle.netlist.specs.declared.Operand.TheVariants as Operand
 use Rattle.netlist.specs.declared.Cell.{Cell}
-use Rattle.netlist.specs.declared.Cell.TheVariants as Cell
 use Rattle.verilog.specs.Cycle.{State}
 use Rattle.translate.specs.Tables.{Tables, same_operand, Merged, kept, muxed, merge, Translated, merge_tables}
 use Rattle.translate.specs.Translation.{after, joined}

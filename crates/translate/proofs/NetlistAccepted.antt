@@ -10,11 +10,8 @@ use Rattle.tagged.specs.Limits.{most_cells}
 use Rattle.tagged.specs.Fields.{placed_by}
 use Rattle.tagged.specs.Declarations.{Declaration, declaration_bytes, declaration_breaks, declaration_broken}
 use Rattle.tagged.specs.declared.answers.Rule.{Rule}
-use Rattle.tagged.specs.declared.answers.Rule.TheVariants as Rule
 use Rattle.tagged.specs.declared.answers.Answer.{Answer}
-use Rattle.tagged.specs.declared.answers.Answer.TheVariants as Answer
 use Rattle.tagged.specs.declared.answers.Found.{Found}
-use Rattle.tagged.specs.declared.answers.Found.TheVariants as Found
 use Rattle.netlist.specs.Lists.{Netlist}
 use Rattle.netlist.specs.Form.{cell_bytes, drive_bytes}
 use Rattle.netlist.specs.Rules.{cell_breaks, drive_breaks, registers_from, whole_broken, cells_base, drives_base}

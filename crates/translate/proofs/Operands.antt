@@ -13,7 +13,6 @@ use Rattle.tagged.specs.Declarations.{Declaration, width_of, variable_width}
 use Rattle.netlist.specs.Lists.{operand_width, cell_width}
 use Rattle.netlist.specs.Rules.{operand_value_broken, operand_missing, operand_unlike}
 use Rattle.netlist.specs.declared.Operand.{Operand}
-use Rattle.netlist.specs.declared.Operand.TheVariants as Operand
 use Rattle.netlist.specs.declared.Cell.{Cell}
 use Rattle.verilog.proofs.Typed.{WidthsFit, no-widths, more-widths}
 use Rattle.translate.specs.Tables.{themselves, operand_at}

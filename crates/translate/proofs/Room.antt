@@ -12,15 +12,10 @@ use Rattle.tagged.specs.Answers.{number_of}
 use Rattle.tagged.specs.Files.{length_fits, outer_fits, outer_answer, file_answer}
 use Rattle.tagged.specs.Refusals.{refused_at, first_refusal, after_form, after_answer}
 use Rattle.tagged.specs.declared.answers.Rule.{Rule}
-use Rattle.tagged.specs.declared.answers.Rule.TheVariants as Rule
 use Rattle.tagged.specs.declared.answers.Answer.{Answer}
-use Rattle.tagged.specs.declared.answers.Answer.TheVariants as Answer
 use Rattle.tagged.specs.declared.answers.Translation.{Translation}
-use Rattle.tagged.specs.declared.answers.Translation.TheVariants as Translation
 use Rattle.tagged.specs.declared.answers.Found.{Found}
-use Rattle.tagged.specs.declared.answers.Found.TheVariants as Found
 use Rattle.tagged.specs.declared.fields.Step.{Step}
-use Rattle.tagged.specs.declared.fields.Step.TheVariants as Step
 use Rattle.verilog.specs.Form.{module_form}
 use Rattle.verilog.specs.Reading.{module_in}
 use Rattle.verilog.specs.Rules.{module_broken}

@@ -8,12 +8,9 @@ use Rattle.words.specs.declared.TwoOperand.TheVariants as two-operand
 use Rattle.words.specs.Operators.{two_width}
 use Rattle.tagged.specs.Declarations.{Declaration, variable_width}
 use Rattle.tagged.specs.declared.sorts.Kind.{Kind}
-use Rattle.tagged.specs.declared.sorts.Kind.TheVariants as Kind
 use Rattle.netlist.specs.Lists.{operand_width}
 use Rattle.netlist.specs.declared.Operand.{Operand}
-use Rattle.netlist.specs.declared.Operand.TheVariants as Operand
 use Rattle.netlist.specs.declared.Cell.{Cell}
-use Rattle.netlist.specs.declared.Cell.TheVariants as Cell
 use Rattle.verilog.specs.Tree.{Statement, Block, Items, Module}
 use Rattle.verilog.proofs.Typed.{TypedStatement, assign-typed, assign_bit-typed, if_else-typed, case-typed, TypedBlock, end-typed, then_typed, TypedItems, default-typed, item-typed, TypedAll, none-typed, more-typed, TypedModule}
 use Rattle.translate.specs.Tables.{Tables, held_operand, replaced, Translated}

@@ -18,9 +18,7 @@ use Rattle.tagged.specs.Declarations.{Declaration, variable_width, register_at}
 use Rattle.tagged.specs.declared.sorts.Kind.{Kind}
 use Rattle.netlist.specs.Cycle.{operand_value, cell_value}
 use Rattle.netlist.specs.declared.Operand.{Operand}
-use Rattle.netlist.specs.declared.Operand.TheVariants as Operand
 use Rattle.netlist.specs.declared.Cell.{Cell}
-use Rattle.netlist.specs.declared.Cell.TheVariants as Cell
 use Rattle.verilog.specs.Tree.{Expression, Statement, assign, assign_bit, if_else, case, Block, end, ◌then◌, Items, default, item}
 use Rattle.verilog.specs.Rules.{expression_width}
 use Rattle.verilog.specs.Cycle.{State, held, changed, execute, execute_block, execute_items, execute_all}

@@ -14,10 +14,8 @@ use Rattle.words.specs.Values.{Value}
 use Rattle.tagged.specs.Declarations.{Declaration, width_of, is_register, variable_width, register_at}
 use Rattle.tagged.specs.Rows.{all_fit}
 use Rattle.tagged.specs.declared.sorts.Kind.{Kind}
-use Rattle.tagged.specs.declared.sorts.Kind.TheVariants as Kind
 use Rattle.netlist.specs.Cycle.{operand_value}
 use Rattle.netlist.specs.declared.Operand.{Operand}
-use Rattle.netlist.specs.declared.Operand.TheVariants as Operand
 use Rattle.verilog.specs.Cycle.{State, held, changed}
 use Rattle.translate.specs.Tables.{Tables, themselves, operand_at, held_operand, replaced}
 use Rattle.translate.proofs.Values.{Grows, Denotes, denotes-kept}

@@ -14,7 +14,6 @@ use Rattle.tagged.specs.Declarations.{Declaration}
 use Rattle.netlist.specs.Lists.{operand_width}
 use Rattle.netlist.specs.Cycle.{stated_width, operand_value, cell_value, cell_values}
 use Rattle.netlist.specs.declared.Operand.{Operand}
-use Rattle.netlist.specs.declared.Operand.TheVariants as Operand
 use Rattle.netlist.specs.declared.Cell.{Cell}
 
 pub stopped-not : {A B : Type 0} {a : A} → stopped ≡ got a → B

@@ -5,9 +5,7 @@ use Rattle.words.specs.Operators.{one_width, two_width}
 use Rattle.netlist.specs.Lists.{Netlist, operand_width}
 use Rattle.netlist.specs.Rules.{registers_from}
 use Rattle.netlist.specs.declared.Operand.{Operand}
-use Rattle.netlist.specs.declared.Operand.TheVariants as Operand
 use Rattle.netlist.specs.declared.Cell.{Cell}
-use Rattle.netlist.specs.declared.Cell.TheVariants as Cell
 use Rattle.netlist.specs.declared.Drive.{Drive}
 use Rattle.verilog.specs.Tree.{Expression, constant, variable, fixed_bit, chosen_bit, one, two, Statement, assign, assign_bit, if_else, case, Block, end, ◌then◌, Items, default, item, Module}
 use Rattle.verilog.specs.Cycle.{delays_any}

@@ -7,7 +7,6 @@ use native.Mathlib.Omega.{arith}
 use lib.Dec.{eqb}
 use borrow.Author.Tests.{eqb-true, eq-eqb}
 use Rattle.tagged.specs.declared.sorts.Kind.{Kind}
-use Rattle.tagged.specs.declared.sorts.Kind.TheVariants as Kind
 use Rattle.verilog.specs.Tree.{assign, assign_bit, if_else, case}
 use Rattle.verilog.specs.Nodes.{What, declaration, process, expression, statement, item_of, Node}
 use Rattle.verilog.specs.Rules.{is_assignment}

@@ -14,7 +14,6 @@ use Rattle.tagged.specs.Stands.{Stands}
 use Rattle.tagged.specs.Refusals.{first_broken}
 use Rattle.tagged.specs.Declarations.{Declaration, declaration_breaks}
 use Rattle.tagged.specs.declared.answers.Rule.{Rule}
-use Rattle.tagged.specs.declared.answers.Rule.TheVariants as Rule
 use Rattle.tagged.specs.declared.answers.Found.TheVariants as Found
 use Rattle.tagged.proofs.RefusalLaws.{nowhere-passes}
 use Rattle.tagged.proofs.FoundLaws.{unplaced-append, found-same}

@@ -10,7 +10,6 @@ use Rattle.tagged.specs.Choice.{choose}
 use Rattle.tagged.specs.Fields.{Placed, unplaced}
 use Rattle.tagged.specs.Refusals.{first_broken}
 use Rattle.tagged.specs.declared.answers.Found.{Found}
-use Rattle.tagged.specs.declared.answers.Found.TheVariants as Found
 use Rattle.tagged.proofs.TestLaws.{neither, not-not-so}
 use Rattle.tagged.proofs.RefusalLaws.{front-passes}
 use Rattle.verilog.specs.Nodes.{Node}

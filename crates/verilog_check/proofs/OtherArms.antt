@@ -1,15 +1,13 @@
 -- What a match leaves over passes the tests: another sort of expression or of statement. By cases on the sort.
 use mathlib.Core.Path.{◌≡◌, refl}
 use mathlib.Core.Bool.{Bool, false}
-use mathlib.Core.List.{List, [], ◌∷◌}
+use mathlib.Core.List.{List}
 use Prim.Native.Nat.{ℕ}
 use Rattle.tagged.specs.Declarations.{Declaration}
 use Rattle.words.specs.declared.TwoOperand.{TwoOperand}
 use Rattle.tagged.specs.declared.sorts.Kind.{Kind}
 use Rattle.tagged.specs.declared.sorts.StatementSort.{StatementSort}
-use Rattle.tagged.specs.declared.sorts.StatementSort.TheVariants as StatementSort
 use Rattle.tagged.specs.declared.sorts.ExpressionSort.{ExpressionSort}
-use Rattle.tagged.specs.declared.sorts.ExpressionSort.TheVariants as ExpressionSort
 use Rattle.verilog.specs.Reading.{expression_with, expression_in}
 use Rattle.verilog.specs.Rules.{constant_broken, reads_by, assigns_by, operands_differ, read_outside, write_outside}
 use Rattle.verilog_check.specs.Walk.{statement_of}

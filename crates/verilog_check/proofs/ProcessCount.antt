@@ -14,7 +14,6 @@ use Rattle.tagged.specs.Refusals.{first_broken, or_else}
 use Rattle.tagged.specs.Declarations.{Declaration}
 use Rattle.tagged.specs.declared.answers.Rule.TheVariants as Rule
 use Rattle.tagged.specs.declared.answers.Found.{Found}
-use Rattle.tagged.specs.declared.answers.Found.TheVariants as Found
 use Rattle.tagged.proofs.FoundLaws.{found-append}
 use Rattle.verilog.specs.Tree.{Block}
 use Rattle.verilog.specs.Form.{process_bytes}

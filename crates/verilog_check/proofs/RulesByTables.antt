@@ -8,7 +8,6 @@ use Rattle.tagged.specs.Fields.{Placed, unplaced, all_bytes_of, placed_by}
 use Rattle.tagged.specs.Refusals.{first_broken, or_else}
 use Rattle.tagged.specs.Declarations.{Declaration, width_of, register_mark, sort_of_declaration, declaration_bytes, declaration_breaks, declaration_broken}
 use Rattle.tagged.specs.declared.answers.Rule.{Rule}
-use Rattle.tagged.specs.declared.answers.Rule.TheVariants as Rule
 use Rattle.tagged.specs.declared.answers.Found.{Found}
 use Rattle.tagged.proofs.RefusalLaws.{passes-nowhere}
 use Rattle.tagged.proofs.FoundLaws.{or-nowhere, found-same}

@@ -11,9 +11,7 @@ use Rattle.tagged.specs.Fields.{field_bytes, all_bytes_of, Placed, unplaced}
 use Rattle.tagged.specs.declared.sorts.Kind.{Kind}
 use Rattle.tagged.specs.declared.sorts.StatementSort.TheVariants as StatementSort
 use Rattle.tagged.specs.declared.sorts.ExpressionSort.{ExpressionSort}
-use Rattle.tagged.specs.declared.sorts.ExpressionSort.TheVariants as ExpressionSort
 use Rattle.tagged.specs.declared.sorts.Sort.{Sort}
-use Rattle.tagged.specs.declared.sorts.Sort.TheVariants as Sort
 use Rattle.tagged.proofs.SortLaws.{sort-back}
 use Rattle.tagged.proofs.FieldLaws.{Whole}
 use Rattle.tagged.proofs.ListBytes.{field-whole, field-after, field-length}

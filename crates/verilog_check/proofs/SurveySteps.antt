@@ -10,13 +10,9 @@ use lib.Seq.{drop-drop, get_or-drop}
 use borrow.Author.Tests.{eq-eqb, ne_eqb}
 use Rattle.tagged.specs.Fields.{open_of}
 use Rattle.tagged.specs.declared.sorts.Kind.{Kind}
-use Rattle.tagged.specs.declared.sorts.Kind.TheVariants as Kind
 use Rattle.tagged.specs.declared.sorts.StatementSort.{StatementSort}
-use Rattle.tagged.specs.declared.sorts.StatementSort.TheVariants as StatementSort
 use Rattle.tagged.specs.declared.sorts.Sort.{Sort}
-use Rattle.tagged.specs.declared.sorts.Sort.TheVariants as Sort
 use Rattle.tagged.specs.declared.fields.Opened.{Opened}
-use Rattle.tagged.specs.declared.fields.Opened.TheVariants as Opened
 use Rattle.tagged.proofs.ByteLaws.{rest}
 use Rattle.tagged.proofs.FieldLaws.{Whole, open-whole, whole_open}
 use Rattle.verilog_check.specs.Tables.{kind_bit, with_first}

@@ -10,7 +10,6 @@ use Rattle.words.specs.Operators.{one_width, two_width}
 use Rattle.tagged.specs.Declarations.{Declaration, input, register, width_of, variable_width, register_at, register_mark, sort_of_declaration, declaration_breaks}
 use Rattle.tagged.specs.declared.sorts.Kind.{Kind}
 use Rattle.tagged.specs.declared.answers.Rule.{Rule}
-use Rattle.tagged.specs.declared.answers.Rule.TheVariants as Rule
 use Rattle.verilog.specs.Tree.{Expression, constant, variable, fixed_bit, chosen_bit, one, two, Statement, assign, assign_bit, if_else, case}
 use Rattle.verilog.specs.Nodes.{Node}
 use Rattle.verilog.specs.Rules.{expression_width, by_field, reads_by, assigns_by, operands_differ, statement_differs, read_outside, write_outside, breaks}

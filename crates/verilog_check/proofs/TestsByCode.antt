@@ -8,9 +8,7 @@ use lib.Dec.{eqb}
 use borrow.Author.Tests.{eqb-true, eqb-false, eq-eqb, ne_eqb}
 use Rattle.tagged.specs.Declarations.{Declaration, declaration_breaks}
 use Rattle.tagged.specs.declared.sorts.Kind.{Kind}
-use Rattle.tagged.specs.declared.sorts.Kind.TheVariants as Kind
 use Rattle.tagged.specs.declared.answers.Rule.{Rule}
-use Rattle.tagged.specs.declared.answers.Rule.TheVariants as Rule
 use Rattle.verilog.specs.Nodes.{Node}
 use Rattle.verilog.specs.Rules.{is_assignment, is_blocking, same_kind, some_node, breaks}
 use Rattle.verilog_check.specs.Tables.{kind_bit, first_code}

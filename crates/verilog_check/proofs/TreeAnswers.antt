@@ -16,14 +16,11 @@ use Rattle.tagged.specs.Answers.{number_of}
 use Rattle.tagged.specs.Declarations.{Declaration, width_of, declaration_bytes, declaration_breaks, declaration_broken, declaration_rules, declarations_answer, declarations_step, declarations_at, declarations_in, variable_table}
 use Rattle.tagged.specs.declared.declarations.VariableTable.{VariableTable}
 use Rattle.tagged.specs.declared.answers.Rule.{Rule}
-use Rattle.tagged.specs.declared.answers.Rule.TheVariants as Rule
 use Rattle.tagged.specs.declared.answers.Found.{Found}
-use Rattle.tagged.specs.declared.answers.Found.TheVariants as Found
 use Rattle.tagged.specs.declared.answers.Answer.{Answer}
-use Rattle.tagged.specs.declared.answers.Answer.TheVariants as Answer
 use Rattle.tagged.specs.declared.fields.Step.TheVariants as Step
 use Rattle.tagged.proofs.FileLaws.{file-fits}
-use Rattle.tagged.proofs.RefusalLaws.{Agrees, agree-none, agree-more, same-refusal, passes-nowhere, Rising, order-rising, none}
+use Rattle.tagged.proofs.RefusalLaws.{Agrees, agree-none, agree-more, same-refusal, passes-nowhere, Rising, order-rising}
 use Rattle.tagged.proofs.LowerLaws.{refusal-both, refusal-same}
 use Rattle.tagged.proofs.FoundLaws.{or-nowhere}
 use Rattle.tagged.proofs.DeclarationSizes.{variables-few}

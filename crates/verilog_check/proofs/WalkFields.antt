@@ -10,7 +10,6 @@ use Rattle.tagged.specs.Refusals.{first_broken, found_if, first_refusal, lower_r
 use Rattle.tagged.specs.declared.sorts.Sort.{Sort}
 use Rattle.tagged.specs.declared.answers.Rule.{Rule}
 use Rattle.tagged.specs.declared.answers.Answer.{Answer}
-use Rattle.tagged.specs.declared.answers.Answer.TheVariants as Answer
 use Rattle.tagged.proofs.RefusalLaws.{Rising}
 use Rattle.tagged.proofs.FoundLaws.{found-same}
 use Rattle.tagged.proofs.LowerLaws.{lower-accepted, lower-joined, refusal-same, refusal-nowhere, answer-front}

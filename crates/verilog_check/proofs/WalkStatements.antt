@@ -8,10 +8,8 @@ use Rattle.tagged.specs.Bytes.{four_bytes}
 use Rattle.tagged.specs.Sorts.{tag_of}
 use Rattle.tagged.specs.Fields.{Placed, field_bytes, fields_at}
 use Rattle.tagged.specs.declared.sorts.StatementSort.{StatementSort}
-use Rattle.tagged.specs.declared.sorts.StatementSort.TheVariants as StatementSort
 use Rattle.tagged.specs.declared.sorts.ExpressionSort.TheVariants as ExpressionSort
 use Rattle.tagged.specs.declared.sorts.Sort.{Sort}
-use Rattle.tagged.specs.declared.sorts.Sort.TheVariants as Sort
 use Rattle.tagged.proofs.ListBytes.{field-length}
 use Rattle.verilog.specs.Tree.{Expression, constant, Statement, assign, assign_bit, if_else, case, Block, end, ◌then◌, Items, default, item}
 use Rattle.verilog.specs.Form.{expression_bytes, statement_field, statement_bytes, block_payload, items_bytes, block_bytes}

@@ -5,18 +5,14 @@ use Prim.Native.Nat.{ℕ, zero, suc, ◌+◌, ◌-◌, ◌<◌, ◌≤◌}
 use native.Mathlib.Numerals.{sub-one}
 use native.Mathlib.Omega.{arith}
 use lib.ListN.{length, get_or, take, drop, length-take, drop_of_length-le}
-use types.Run.{miss}
 use Rattle.tagged.specs.Sorts.{on_expression, on_statement}
 use Rattle.tagged.specs.Fields.{open_of, Placed, Field, fields_at}
 use Rattle.tagged.specs.Refusals.{lower_refusal}
 use Rattle.tagged.specs.declared.sorts.StatementSort.{StatementSort}
 use Rattle.tagged.specs.declared.sorts.ExpressionSort.{ExpressionSort}
 use Rattle.tagged.specs.declared.sorts.Sort.{Sort}
-use Rattle.tagged.specs.declared.sorts.Sort.TheVariants as Sort
 use Rattle.tagged.specs.declared.fields.Opened.{Opened}
-use Rattle.tagged.specs.declared.fields.Opened.TheVariants as Opened
 use Rattle.tagged.specs.declared.answers.Answer.{Answer}
-use Rattle.tagged.specs.declared.answers.Answer.TheVariants as Answer
 use Rattle.tagged.proofs.ByteLaws.{rest}
 use Rattle.tagged.proofs.LowerLaws.{lower-accepted, lower-joined}
 use Rattle.tagged.proofs.SortLaws.{is-itself}

@@ -4,7 +4,6 @@ use Rattle.std.specs.Prelude.{Bool, false, List, [], ℕ, leb, eqb, length, get_
 use Rattle.tagged.specs.Limits.{most_processes}
 use Rattle.tagged.specs.Refusals.{found_if, first_refusal}
 use Rattle.tagged.specs.declared.answers.Rule.{Rule}
-use Rattle.tagged.specs.declared.answers.Rule.TheVariants as Rule
 use Rattle.tagged.specs.declared.answers.Answer.{Answer}
 use Rattle.verilog.specs.Nodes.{What, Node}
 use Rattle.verilog.specs.Rules.{by_field, reads_by, assigns_by, is_assignment, is_read, breaks}

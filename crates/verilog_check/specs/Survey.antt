@@ -2,9 +2,7 @@
 use Rattle.std.specs.Prelude.{List, [], ◌∷◌, ℕ, zero, suc, ◌+◌, ◌-◌, get_or}
 use Rattle.tagged.specs.Fields.{open_of, on_field}
 use Rattle.tagged.specs.declared.sorts.StatementSort.{StatementSort}
-use Rattle.tagged.specs.declared.sorts.StatementSort.TheVariants as StatementSort
 use Rattle.tagged.specs.declared.sorts.Sort.{Sort}
-use Rattle.tagged.specs.declared.sorts.Sort.TheVariants as Sort
 use Rattle.verilog_check.specs.Tables.{first_code, with_first}
 
 -- how many bytes further the next field stands, after one of n bytes of payload

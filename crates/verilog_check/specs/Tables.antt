@@ -2,7 +2,6 @@
 use Rattle.std.specs.Prelude.{Bool, cond, ◌&&◌, not, List, [], map, ℕ, ◌+◌, ◌*◌, ◌/◌, ◌%◌, eqb, get_or, set}
 use Rattle.tagged.specs.Declarations.{Declaration, input}
 use Rattle.tagged.specs.declared.sorts.Kind.{Kind}
-use Rattle.tagged.specs.declared.sorts.Kind.TheVariants as Kind
 
 -- variables of these widths; rules 7 and 8 ask for no more of a declaration
 abbrev pub variables_of : List ℕ → List Declaration

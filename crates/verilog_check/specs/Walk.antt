@@ -5,13 +5,9 @@ use Rattle.tagged.specs.Sorts.{on_statement, on_expression, is_sort}
 use Rattle.tagged.specs.Fields.{Placed, Field, fields_at}
 use Rattle.tagged.specs.Refusals.{lower_refusal}
 use Rattle.tagged.specs.declared.sorts.StatementSort.{StatementSort}
-use Rattle.tagged.specs.declared.sorts.StatementSort.TheVariants as StatementSort
 use Rattle.tagged.specs.declared.sorts.ExpressionSort.{ExpressionSort}
-use Rattle.tagged.specs.declared.sorts.ExpressionSort.TheVariants as ExpressionSort
 use Rattle.tagged.specs.declared.sorts.Sort.{Sort}
-use Rattle.tagged.specs.declared.sorts.Sort.TheVariants as Sort
 use Rattle.tagged.specs.declared.answers.Answer.{Answer}
-use Rattle.tagged.specs.declared.answers.Answer.TheVariants as Answer
 use Rattle.verilog.specs.Tree.{Expression, constant, Statement}
 use Rattle.verilog.specs.Nodes.{What, process, expression, statement, item_of}
 use Rattle.verilog.specs.Reading.{front_by, expression_with, expression_in, statement_with, block_in, item_in}

@@ -12,11 +12,8 @@ use borrow.Author.Tests.{eq-eqb, ne_eqb}
 use Rattle.tagged.specs.Sorts.{on_statement, is_sort}
 use Rattle.tagged.specs.Fields.{open_of, on_field, fields_at}
 use Rattle.tagged.specs.declared.sorts.StatementSort.{StatementSort}
-use Rattle.tagged.specs.declared.sorts.StatementSort.TheVariants as StatementSort
 use Rattle.tagged.specs.declared.sorts.Sort.{Sort}
-use Rattle.tagged.specs.declared.sorts.Sort.TheVariants as Sort
 use Rattle.tagged.specs.declared.fields.Opened.{Opened}
-use Rattle.tagged.specs.declared.fields.Opened.TheVariants as Opened
 use Rattle.tagged.proofs.SortLaws.{is-itself}
 use Rattle.tagged.proofs.FieldLists.{field-within, field-more, field-none}
 use Rattle.verilog.specs.Reading.{expression_in, after_front}

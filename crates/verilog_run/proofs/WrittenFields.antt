@@ -9,7 +9,6 @@ use Rattle.tagged.specs.Choice.{choose}
 use Rattle.tagged.specs.Sorts.{tag_of}
 use Rattle.tagged.specs.Fields.{field_bytes, Placed, Field, read_from, fields_at}
 use Rattle.tagged.specs.declared.sorts.Sort.{Sort}
-use Rattle.tagged.specs.declared.sorts.Sort.TheVariants as Sort
 use Rattle.verilog.specs.Cycle.{State}
 use Rattle.verilog.proofs.WrittenFields.{fields-field}
 use Rattle.verilog_run.specs.Execution.{Runner, run_all, item_value, run_items}

@@ -7,9 +7,7 @@ use Rattle.tagged.specs.Sorts.{on_statement, is_sort}
 use Rattle.tagged.specs.Fields.{Placed, Field, fields_at}
 use Rattle.tagged.specs.declared.sorts.Kind.{Kind}
 use Rattle.tagged.specs.declared.sorts.StatementSort.{StatementSort}
-use Rattle.tagged.specs.declared.sorts.StatementSort.TheVariants as StatementSort
 use Rattle.tagged.specs.declared.sorts.Sort.{Sort}
-use Rattle.tagged.specs.declared.sorts.Sort.TheVariants as Sort
 use Rattle.verilog.specs.Reading.{front_by, after_front, expression_in, by_branch}
 use Rattle.verilog.specs.Cycle.{State, held, changed, settled}
 use Rattle.verilog_run.specs.Numbers.{number_in}

@@ -6,7 +6,6 @@ use Rattle.tagged.proofs.FileLaws.{file-long, form-whole, length-refused, form-r
 use Rattle.netlist.specs.Form.{netlist_body, netlist_form}
 use Rattle.netlist.specs.Reading.{netlist_in}
 use Rattle.netlist.specs.Answer.{lists_answer, netlist_answer}
-use borrow.Author.Rules.{rules}
 use Rattle.netlist.proofs.read.Goals as goal
 
 pub netlist_form-requires : goal.netlist_form-requires

@@ -7,7 +7,6 @@ use Rattle.tagged.specs.Rows.{row_answer}
 use Rattle.tagged.proofs.TableLaws.{widths-long, count_fits, front-few, widths-all}
 use Rattle.netlist.proofs.CallLaws.{accepted-long, variables-told, widths-told}
 use Rattle.netlist.proofs.CycleWritten.{part-short}
-use borrow.Author.Rules.{rules}
 use Rattle.netlist.proofs.rows_answer.Goals as goal
 
 pub variable_table-table-requires : goal.variable_table-table-requires

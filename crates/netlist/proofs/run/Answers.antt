@@ -2,7 +2,6 @@
 use mathlib.Core.Path.{sym, ◌∙◌}
 use Rattle.tagged.proofs.RunPromises.{run-refused, row-refused, run-accepted}
 use Rattle.netlist.specs.Run.{run_answer, run_leaves}
-use borrow.Author.Rules.{rules}
 use Rattle.netlist.proofs.run.Goals as goal
 
 pub rows_answer-requires : goal.rows_answer-requires

@@ -6,7 +6,6 @@ use Rattle.tagged.proofs.FileLaws.{file-long, form-whole, length-refused, form-r
 use Rattle.verilog.specs.Form.{module_body, module_form}
 use Rattle.verilog.specs.Reading.{module_in}
 use Rattle.verilog.specs.Answer.{tree_answer, module_answer}
-use borrow.Author.Rules.{rules}
 use Rattle.verilog_check.proofs.check.Goals as goal
 
 pub module_form-requires : goal.module_form-requires

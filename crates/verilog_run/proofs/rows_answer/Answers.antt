@@ -6,7 +6,6 @@ use Rattle.tagged.specs.Declarations.{declarations_in}
 use Rattle.tagged.specs.Rows.{row_answer}
 use Rattle.tagged.proofs.TableLaws.{widths-all}
 use Rattle.verilog_check.proofs.AcceptedFile.{payload-short, variables-told, widths-told, widths-room, widths-few}
-use borrow.Author.Rules.{rules}
 use Rattle.verilog_run.proofs.rows_answer.Goals as goal
 
 pub variable_table-table-requires : goal.variable_table-table-requires

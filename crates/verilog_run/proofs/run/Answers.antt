@@ -2,7 +2,6 @@
 use mathlib.Core.Path.{sym, ◌∙◌}
 use Rattle.tagged.proofs.RunPromises.{run-refused, row-refused, run-accepted}
 use Rattle.verilog.specs.Run.{run_answer, run_leaves}
-use borrow.Author.Rules.{rules}
 use Rattle.verilog_run.proofs.run.Goals as goal
 
 pub rows_answer-requires : goal.rows_answer-requires

@@ -1,6 +1,5 @@
 -- `netlist::cycle::cell_number` meets its contract: each arm is the cell that was matched, from the numbers of its operands. Assumes nothing.
 use Rattle.netlist.specs.Numbers.{cell_number}
-use borrow.Author.Rules.{rules}
 use Rattle.netlist.proofs.cycle.cell_number.Goals as goal
 
 pub returns-in-One : goal.returns-in-One

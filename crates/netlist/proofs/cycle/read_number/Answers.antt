@@ -1,6 +1,5 @@
 -- `netlist::cycle::read_number` meets its contract: each arm is the operand that was matched. Assumes nothing.
 use Rattle.netlist.specs.Numbers.{read_number}
-use borrow.Author.Rules.{rules}
 use Rattle.netlist.proofs.cycle.read_number.Goals as goal
 
 pub returns-in-Constant : goal.returns-in-Constant

@@ -1,13 +1,9 @@
 -- `netlist::cycle::run_cells` meets its contract: the values so far, with the numbers of the rest of the list, are those of the list. Assumes nothing.
-use mathlib.Core.Path.{◌≡◌, refl, ap, ◌∙◌}
-use Prim.Native.Nat.{ℕ, ◌-◌, ◌≤◌}
-use lib.ListN.{length, drop, length-set}
-use Rattle.tagged.specs.Fields.{unplaced}
-use Rattle.tagged.specs.declared.fields.Step.TheVariants as Step
-use Rattle.netlist.specs.Form.{cells_step}
-use Rattle.netlist.specs.Reading.{cell_in, cells_at}
-use Rattle.netlist.specs.Numbers.{cell_number, cell_numbers}
-use Rattle.netlist.proofs.RuleWalks.{CellsLeft, left-start, cell-within, cell-more, cell-none, left-more, left-none}
+use mathlib.Core.Path.{refl, ap, ◌∙◌}
+use lib.ListN.{length, length-set}
+use Rattle.netlist.specs.Reading.{cell_in}
+use Rattle.netlist.specs.Numbers.{cell_number}
+use Rattle.netlist.proofs.RuleWalks.{left-start, cell-within, cell-more, cell-none, left-more, left-none}
 use Rattle.netlist.proofs.RunWalks.{numbers-turn, numbers-done}
 use borrow.Author.Rules.{rules}
 use native.Mathlib.Omega.{arith}

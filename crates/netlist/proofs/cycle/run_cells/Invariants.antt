@@ -1,15 +1,12 @@
-use mathlib.Core.Path.{◌≡◌, refl, ap, ◌∙◌}
+use mathlib.Core.Path.{◌≡◌}
 use Prim.Native.Nat.{ℕ, ◌-◌, ◌≤◌}
-use lib.ListN.{length, drop, length-set}
+use lib.ListN.{length, drop}
 use Rattle.tagged.specs.Fields.{unplaced}
 use Rattle.tagged.specs.declared.fields.Step.TheVariants as Step
 use Rattle.netlist.specs.Form.{cells_step}
-use Rattle.netlist.specs.Reading.{cell_in, cells_at}
-use Rattle.netlist.specs.Numbers.{cell_number, cell_numbers}
-use Rattle.netlist.proofs.RuleWalks.{CellsLeft, left-start, cell-within, cell-more, cell-none, left-more, left-none}
-use Rattle.netlist.proofs.RunWalks.{numbers-turn, numbers-done}
-use borrow.Author.Rules.{rules}
-use native.Mathlib.Omega.{arith}
+use Rattle.netlist.specs.Reading.{cells_at}
+use Rattle.netlist.specs.Numbers.{cell_numbers}
+use Rattle.netlist.proofs.RuleWalks.{CellsLeft}
 use Rattle.netlist.proofs.cycle.run_cells.Given as goal
 
 abbrev pub invariant-loop-sort : goal.invariant-loop-sort

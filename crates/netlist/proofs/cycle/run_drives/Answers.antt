@@ -1,10 +1,7 @@
 -- `netlist::cycle::run_drives` meets its contract: the next row so far, with what the rest of the list drives, is what the list drives. Assumes nothing.
-use mathlib.Core.Path.{◌≡◌, refl, ap, ◌∙◌}
-use Prim.Native.Nat.{◌-◌, ◌≤◌}
-use lib.ListN.{length, drop, length-set}
-use Rattle.tagged.specs.Fields.{unplaced}
-use Rattle.netlist.specs.Reading.{drive_in, drives_at}
-use Rattle.netlist.specs.Numbers.{driven_numbers}
+use mathlib.Core.Path.{refl, ap, ◌∙◌}
+use lib.ListN.{length, length-set}
+use Rattle.netlist.specs.Reading.{drive_in}
 use Rattle.netlist.proofs.RuleWalks.{drive-within, drive-more, drive-none}
 use Rattle.netlist.proofs.RunWalks.{driven-turn, driven-done}
 use borrow.Author.Rules.{rules}

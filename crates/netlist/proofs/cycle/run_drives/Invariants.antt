@@ -1,13 +1,9 @@
-use mathlib.Core.Path.{◌≡◌, refl, ap, ◌∙◌}
+use mathlib.Core.Path.{◌≡◌}
 use Prim.Native.Nat.{◌-◌, ◌≤◌}
-use lib.ListN.{length, drop, length-set}
+use lib.ListN.{length, drop}
 use Rattle.tagged.specs.Fields.{unplaced}
-use Rattle.netlist.specs.Reading.{drive_in, drives_at}
+use Rattle.netlist.specs.Reading.{drives_at}
 use Rattle.netlist.specs.Numbers.{driven_numbers}
-use Rattle.netlist.proofs.RuleWalks.{drive-within, drive-more, drive-none}
-use Rattle.netlist.proofs.RunWalks.{driven-turn, driven-done}
-use borrow.Author.Rules.{rules}
-use native.Mathlib.Omega.{arith}
 use Rattle.netlist.proofs.cycle.run_drives.Given as goal
 
 abbrev pub invariant-loop-size : goal.invariant-loop-size

@@ -7,7 +7,6 @@ use Rattle.tagged.specs.Fields.{passed_bytes}
 use Rattle.tagged.specs.Declarations.{declarations_step}
 use Rattle.netlist.proofs.CycleWritten.{part-short, file-short, count-few, cycle-written}
 use native.Mathlib.Omega.{arith}
-use borrow.Author.Rules.{rules}
 use Rattle.netlist.proofs.cycle.write_cycle.Goals as goal
 
 pub declared_bytes-requires : goal.declared_bytes-requires

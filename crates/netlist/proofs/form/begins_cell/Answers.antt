@@ -2,7 +2,6 @@
 use mathlib.Core.Path.{sym, ap, ◌∙◌}
 use Rattle.tagged.specs.Sorts.{is_cell}
 use Rattle.netlist.proofs.FormLaws.{not-cell}
-use borrow.Author.Rules.{rules}
 use Rattle.netlist.proofs.form.begins_cell.Goals as goal
 
 pub returns-in-Cell : goal.returns-in-Cell

@@ -3,7 +3,6 @@ use mathlib.Core.List.{[], ◌∷◌}
 use Prim.Native.Nat.{◌+◌}
 use Rattle.netlist.specs.Form.{an_operand}
 use Rattle.netlist.proofs.FormLaws.{byte-refused, byte-then}
-use borrow.Author.Rules.{rules}
 use Rattle.netlist.proofs.form.byte_and_operand.Goals as goal
 
 pub returns-then-part-lt1 : goal.returns-then-part-lt1

@@ -2,7 +2,6 @@
 use Prim.Native.Nat.{◌+◌}
 use Rattle.netlist.specs.Form.{shape_of}
 use Rattle.netlist.proofs.FormLaws.{byte-refused, byte-then, cell-slotted, cell_other, not-cell}
-use borrow.Author.Rules.{rules}
 use Rattle.netlist.proofs.form.cell_body.Goals as goal
 
 pub returns-then-payload-lt1 : goal.returns-then-payload-lt1

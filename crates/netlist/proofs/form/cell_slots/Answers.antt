@@ -1,10 +1,8 @@
 -- `netlist::form::cell_slots` meets its contract: an operand stands first in every cell, and each arm has the slots after it. Assumes nothing.
 use mathlib.Core.Path.{ap}
 use Prim.Native.Nat.{◌+◌}
-use borrow.Author.Tests.{not-true, not-false}
 use Rattle.netlist.specs.Form.{shape_of}
 use Rattle.netlist.proofs.FormLaws.{operand-first, operand-refused, operand-then, slots-ended}
-use borrow.Author.Rules.{rules}
 use Rattle.netlist.proofs.form.cell_slots.Goals as goal
 
 pub returns-then-not-operand_stands : goal.returns-then-not-operand_stands

@@ -1,12 +1,9 @@
 -- `netlist::form::cells` meets its contract: what is passed is fine, so the whole is the bytes passed and then the rest. Assumes nothing.
-use mathlib.Core.Path.{◌≡◌, sym, ap, ◌∙◌}
-use Prim.Native.Nat.{◌+◌, ◌-◌, ◌≤◌}
+use mathlib.Core.Path.{sym, ap, ◌∙◌}
 use native.Mathlib.Nat.{add-zero}
 use native.Mathlib.Omega.{arith}
-use lib.ListN.{length, drop}
-use borrow.Author.Tests.{not-true, not-false}
 use Rattle.tagged.specs.Sorts.{sort_of, is_cell}
-use Rattle.tagged.specs.Fields.{further, field_by, many}
+use Rattle.tagged.specs.Fields.{field_by}
 use Rattle.netlist.specs.Form.{cell_body, cells_step}
 use Rattle.tagged.proofs.ByteLaws.{front}
 use Rattle.tagged.proofs.FieldLaws.{past-within}

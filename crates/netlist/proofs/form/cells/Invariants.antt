@@ -1,16 +1,9 @@
-use mathlib.Core.Path.{◌≡◌, sym, ap, ◌∙◌}
+use mathlib.Core.Path.{◌≡◌}
 use Prim.Native.Nat.{◌+◌, ◌-◌, ◌≤◌}
-use native.Mathlib.Nat.{add-zero}
-use native.Mathlib.Omega.{arith}
 use lib.ListN.{length, drop}
-use borrow.Author.Tests.{not-true, not-false}
-use Rattle.tagged.specs.Sorts.{sort_of, is_cell}
+use Rattle.tagged.specs.Sorts.{is_cell}
 use Rattle.tagged.specs.Fields.{further, field_by, many}
-use Rattle.netlist.specs.Form.{cell_body, cells_step}
-use Rattle.tagged.proofs.ByteLaws.{front}
-use Rattle.tagged.proofs.FieldLaws.{past-within}
-use Rattle.tagged.proofs.ListLaws.{further-zero, turn-done, turn-stop, turn-refused, turn-past}
-use borrow.Author.Rules.{rules}
+use Rattle.netlist.specs.Form.{cell_body}
 use Rattle.netlist.proofs.form.cells.Given as goal
 
 abbrev pub invariant-loop-at : goal.invariant-loop-at

@@ -3,7 +3,6 @@ use native.Mathlib.Omega.{arith}
 use Rattle.netlist.specs.Form.{cells_step, drives_judge}
 use Rattle.tagged.proofs.FieldLaws.{then-refused, then-past}
 use Rattle.netlist.proofs.FormLaws.{cells-within}
-use borrow.Author.Rules.{rules}
 use Rattle.netlist.proofs.form.cells_and_drives.Goals as goal
 
 pub slice_bounds-drives_until_end-count : goal.slice_bounds-drives_until_end-count

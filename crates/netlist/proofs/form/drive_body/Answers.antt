@@ -1,7 +1,6 @@
 -- `netlist::form::drive_body` meets its contract: each arm is the sort that the match found. Assumes nothing.
 use Prim.Native.Nat.{◌+◌}
 use Rattle.netlist.proofs.FormLaws.{drive-slotted, drive-other}
-use borrow.Author.Rules.{rules}
 use Rattle.netlist.proofs.form.drive_body.Goals as goal
 
 pub returns-in-Drive : goal.returns-in-Drive

@@ -1,10 +1,10 @@
 -- `netlist::form::drives_until_end` meets its contract: what is passed is fine, so the whole is the bytes passed and then the rest. Assumes nothing.
-use mathlib.Core.Path.{◌≡◌, refl}
-use Prim.Native.Nat.{◌+◌, ◌-◌, ◌≤◌}
+use mathlib.Core.Path.{refl}
+use Prim.Native.Nat.{◌+◌, ◌-◌}
 use native.Mathlib.Nat.{add-zero}
 use native.Mathlib.Omega.{arith}
 use lib.ListN.{length, take, drop, length-take}
-use Rattle.tagged.specs.Fields.{further, field_by, many, ended, any_sort}
+use Rattle.tagged.specs.Fields.{field_by, many, ended, any_sort}
 use Rattle.netlist.specs.Form.{drive_body, drives_judge}
 use Rattle.tagged.proofs.FieldLaws.{past-within, then-refused, then-past, ended-fine}
 use Rattle.tagged.proofs.ListLaws.{further-zero, turn-done, turn-refused, turn-past}

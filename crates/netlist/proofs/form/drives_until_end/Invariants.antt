@@ -1,13 +1,8 @@
-use mathlib.Core.Path.{◌≡◌, refl}
+use mathlib.Core.Path.{◌≡◌}
 use Prim.Native.Nat.{◌+◌, ◌-◌, ◌≤◌}
-use native.Mathlib.Nat.{add-zero}
-use native.Mathlib.Omega.{arith}
-use lib.ListN.{length, take, drop, length-take}
-use Rattle.tagged.specs.Fields.{further, field_by, many, ended, any_sort}
-use Rattle.netlist.specs.Form.{drive_body, drives_judge}
-use Rattle.tagged.proofs.FieldLaws.{past-within, then-refused, then-past, ended-fine}
-use Rattle.tagged.proofs.ListLaws.{further-zero, turn-done, turn-refused, turn-past}
-use borrow.Author.Rules.{rules}
+use lib.ListN.{length, drop}
+use Rattle.tagged.specs.Fields.{further, field_by, many, any_sort}
+use Rattle.netlist.specs.Form.{drive_body}
 use Rattle.netlist.proofs.form.drives_until_end.Given as goal
 
 abbrev pub invariant-loop-at : goal.invariant-loop-at

@@ -7,7 +7,6 @@ use Rattle.netlist.specs.Form.{cells_step, drives_judge}
 use Rattle.tagged.proofs.FieldLaws.{then-refused, then-past}
 use Rattle.tagged.proofs.DeclarationBytes.{declarations-within}
 use Rattle.netlist.proofs.FormLaws.{netlist-lists, netlist-other}
-use borrow.Author.Rules.{rules}
 use Rattle.netlist.proofs.form.netlist_body.Goals as goal
 
 pub slice_bounds-cells_and_drives-count : goal.slice_bounds-cells_and_drives-count

@@ -3,7 +3,6 @@ use mathlib.Core.Path.{sym, ◌∙◌}
 use native.Mathlib.Omega.{arith}
 use Rattle.netlist.specs.Form.{netlist_body, netlist_form}
 use Rattle.tagged.proofs.FieldLaws.{open-whole, field-refused, field_past}
-use borrow.Author.Rules.{rules}
 use Rattle.netlist.proofs.form.netlist_form.Goals as goal
 
 pub overflow_add-size : goal.overflow_add-size

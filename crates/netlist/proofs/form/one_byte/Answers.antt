@@ -2,7 +2,6 @@
 use mathlib.Core.List.{[]}
 use Prim.Native.Nat.{◌+◌}
 use Rattle.netlist.proofs.FormLaws.{byte-refused, byte-then, slots-ended}
-use borrow.Author.Rules.{rules}
 use Rattle.netlist.proofs.form.one_byte.Goals as goal
 
 pub returns-then-part-lt1 : goal.returns-then-part-lt1

@@ -3,7 +3,6 @@ use mathlib.Core.Path.{refl}
 use mathlib.Core.List.{[]}
 use Prim.Native.Nat.{◌+◌}
 use Rattle.netlist.proofs.FormLaws.{operand-refused, operand-then, slots-ended}
-use borrow.Author.Rules.{rules}
 use Rattle.netlist.proofs.form.one_operand.Goals as goal
 
 pub returns-then-operand_stands : goal.returns-then-operand_stands

@@ -6,7 +6,6 @@ use lib.Dec.{leb}
 use lib.ListN.{length, get_or}
 use borrow.Author.Tests.{le-leb, lt-leb}
 use Rattle.tagged.proofs.TestLaws.{not_first}
-use borrow.Author.Rules.{rules}
 use Rattle.netlist.proofs.form.operand_stands.Goals as goal
 
 pub returns-then-byte_at-le2 : goal.returns-then-byte_at-le2

@@ -4,7 +4,6 @@ use mathlib.Core.List.{[], ◌∷◌}
 use Prim.Native.Nat.{◌+◌}
 use Rattle.netlist.specs.Form.{an_operand}
 use Rattle.netlist.proofs.FormLaws.{operand-refused, operand-then}
-use borrow.Author.Rules.{rules}
 use Rattle.netlist.proofs.form.two_operands.Goals as goal
 
 pub returns-then-operand_stands : goal.returns-then-operand_stands

@@ -1,7 +1,6 @@
 -- `netlist::parts::cell_part` meets its contract: the cells follow the declarations. Assumes nothing.
 use native.Mathlib.Omega.{arith}
 use Rattle.netlist.proofs.PartLaws.{payload-short, bytes-short, cells-short, part-of-file}
-use borrow.Author.Rules.{rules}
 use Rattle.netlist.proofs.parts.cell_part.Goals as goal
 
 pub declared_bytes-bytes-requires : goal.declared_bytes-bytes-requires

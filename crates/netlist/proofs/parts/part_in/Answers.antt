@@ -1,10 +1,8 @@
 -- `netlist::parts::part_in` meets its contract: what is still to be passed, from here on, leads to the same cell. Assumes nothing.
-use Prim.Native.Nat.{◌-◌, ◌≤◌}
 use native.Mathlib.Nat.{add-zero}
 use native.Mathlib.Omega.{arith}
-use lib.ListN.{length}
 use Rattle.netlist.proofs.RuleWalks.{cell-within}
-use Rattle.netlist.proofs.PartLaws.{Ahead, part_none, part-here, part-later}
+use Rattle.netlist.proofs.PartLaws.{part_none, part-here, part-later}
 use borrow.Author.Rules.{rules}
 use Rattle.netlist.proofs.parts.part_in.Goals as goal
 

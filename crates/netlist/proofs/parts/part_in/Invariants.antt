@@ -1,10 +1,6 @@
 use Prim.Native.Nat.{◌-◌, ◌≤◌}
-use native.Mathlib.Nat.{add-zero}
-use native.Mathlib.Omega.{arith}
 use lib.ListN.{length}
-use Rattle.netlist.proofs.RuleWalks.{cell-within}
-use Rattle.netlist.proofs.PartLaws.{Ahead, part_none, part-here, part-later}
-use borrow.Author.Rules.{rules}
+use Rattle.netlist.proofs.PartLaws.{Ahead}
 use Rattle.netlist.proofs.parts.part_in.Given as goal
 
 abbrev pub invariant-loop-size : goal.invariant-loop-size

@@ -1,5 +1,4 @@
 -- `netlist::reading::cell_in` meets its contract: each arm rewrites with the sort that led to it, and with what the calls gave. Assumes nothing.
-use borrow.Author.Rules.{rules}
 use Rattle.netlist.proofs.reading.cell_in.Goals as goal
 
 pub returns-in-One : goal.returns-in-One

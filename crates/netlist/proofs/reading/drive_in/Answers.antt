@@ -1,5 +1,4 @@
 -- `netlist::reading::drive_in` meets its contract: its two parts are those of the definition. Assumes nothing.
-use borrow.Author.Rules.{rules}
 use Rattle.netlist.proofs.reading.drive_in.Goals as goal
 
 pub returns : goal.returns

@@ -3,7 +3,6 @@ use mathlib.Core.Path.{sym}
 use Rattle.netlist.specs.Reading.{next_cell_in}
 use Rattle.netlist.proofs.FormLaws.{not-cell}
 use Rattle.netlist.proofs.NextLaws.{other-than-cell}
-use borrow.Author.Rules.{rules}
 use Rattle.netlist.proofs.reading.next_cell.Goals as goal
 
 pub returns-in-Cell : goal.returns-in-Cell

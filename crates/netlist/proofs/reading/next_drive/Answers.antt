@@ -2,7 +2,6 @@
 use Rattle.netlist.specs.Reading.{next_drive_in}
 use Rattle.netlist.proofs.NextLaws.{not-drive}
 use Rattle.tagged.specs.Sorts.{tag_of}
-use borrow.Author.Rules.{rules}
 use Rattle.netlist.proofs.reading.next_drive.Goals as goal
 
 pub returns-in-Drive : goal.returns-in-Drive

@@ -1,7 +1,6 @@
 -- `netlist::reading::operand_at` meets its contract: the operand of the rest. Assumes nothing.
 use mathlib.Core.Path.{ap, ◌∙◌}
 use Rattle.netlist.specs.Reading.{operand_in}
-use borrow.Author.Rules.{rules}
 use Rattle.netlist.proofs.reading.operand_at.Goals as goal
 
 pub returns : goal.returns

@@ -7,7 +7,6 @@ use lib.ListN.{get_or, drop}
 use lib.Seq.{get_or-drop}
 use Rattle.tagged.specs.Bytes.{number_of_four, four_of}
 use Rattle.netlist.specs.Reading.{operand_in}
-use borrow.Author.Rules.{rules}
 use Rattle.netlist.proofs.reading.operand_in.Goals as goal
 
 after_two : (l : List ℕ) → number_of_four (get_or l 2 0) (get_or l 3 0) (get_or l 4 0) (get_or l 5 0) ≡ four_of (drop 2 l)

@@ -3,7 +3,6 @@ use mathlib.Core.Path.{sym, ap₂, ◌∙◌}
 use mathlib.Core.List.{[], ◌∷◌}
 use Rattle.tagged.specs.Refusals.{lower_refusal}
 use Rattle.netlist.proofs.RuleAnswers.{operands-both}
-use borrow.Author.Rules.{rules}
 use Rattle.netlist.proofs.rules.both_answer.Goals as goal
 
 pub returns : goal.returns

@@ -1,6 +1,5 @@
 -- `netlist::rules::cell_answer` meets its contract: the lower of the cell's own answer and its operands'. Assumes nothing.
 use Rattle.netlist.proofs.RuleAnswers.{cell-joined}
-use borrow.Author.Rules.{rules}
 use Rattle.netlist.proofs.rules.cell_answer.Goals as goal
 
 pub returns : goal.returns

@@ -1,7 +1,6 @@
 -- `netlist::rules::cell_outside` meets its contract: each arm is the cell that the match found, with what the calls gave. Assumes nothing.
 use Rattle.netlist.specs.Rules.{cell_outside}
 use Rattle.netlist.proofs.RuleLaws.{no-bit}
-use borrow.Author.Rules.{rules}
 use Rattle.netlist.proofs.rules.cell_outside.Goals as goal
 
 pub returns-in-Put : goal.returns-in-Put

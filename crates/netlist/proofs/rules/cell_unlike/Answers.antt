@@ -1,6 +1,5 @@
 -- `netlist::rules::cell_unlike` meets its contract: each arm is the cell that the match found, with what the calls gave. Assumes nothing.
 use Rattle.netlist.specs.Rules.{cell_unlike}
-use borrow.Author.Rules.{rules}
 use Rattle.netlist.proofs.rules.cell_unlike.Goals as goal
 
 pub returns-in-One : goal.returns-in-One

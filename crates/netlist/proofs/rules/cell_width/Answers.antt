@@ -1,5 +1,4 @@
 -- `netlist::rules::cell_width` meets its contract: each arm rewrites with the cell that led to it. Assumes nothing.
-use borrow.Author.Rules.{rules}
 use Rattle.netlist.proofs.rules.cell_width.Goals as goal
 
 pub returns-in-One : goal.returns-in-One

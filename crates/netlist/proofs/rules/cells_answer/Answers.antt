@@ -1,22 +1,21 @@
 -- `netlist::rules::cells_answer` meets its contract: the best answer so far, joined with that of the cells left, is that of the list.
 -- The table holds the widths of the cells passed. Assumes nothing.
-use mathlib.Core.Path.{◌≡◌, sym, ap, ap₂, ◌∙◌}
-use mathlib.Core.List.{List, [], map}
-use Prim.Native.Nat.{◌+◌, ◌-◌, ◌≤◌}
+use mathlib.Core.Path.{sym, ap, ap₂, ◌∙◌}
+use mathlib.Core.List.{[], map}
+use Prim.Native.Nat.{◌+◌}
 use native.Mathlib.Nat.{add-zero}
 use native.Mathlib.Omega.{arith}
 use lib.ListN.{length, take, drop, length-drop}
 use lib.Seq.{take_all, length-take-le}
 use Rattle.tagged.specs.Fields.{unplaced}
 use Rattle.tagged.specs.Refusals.{lower_refusal}
-use Rattle.tagged.specs.Declarations.{Declaration, width_of}
 use Rattle.netlist.specs.Lists.{cell_width}
 use Rattle.netlist.specs.Reading.{cell_in, cells_at, drives_at}
 use Rattle.netlist.specs.Rules.{cell_breaks, drive_breaks}
-use Rattle.netlist.specs.WalkAnswers.{one_answer, list_answer, whole_answer, cells_end, parts_answer, most_listed}
-use Rattle.netlist.proofs.RuleAnswers.{Walking, walking_start, walking-more, walking-done}
-use Rattle.netlist.proofs.RuleWalks.{cells_of, cell-within, cell-placed, cell-more, cell-ended, cell-none, CellsLeft, left-start, left-more, left-none}
-use Rattle.netlist.proofs.RuleWalks.{Walked, walked_start, walked_more, walked_all, walked-before, Tabled, tabled_start, tabled-within, tabled-room, tabled-more}
+use Rattle.netlist.specs.WalkAnswers.{one_answer, list_answer, whole_answer, parts_answer, most_listed}
+use Rattle.netlist.proofs.RuleAnswers.{walking_start, walking-more, walking-done}
+use Rattle.netlist.proofs.RuleWalks.{cells_of, cell-within, cell-placed, cell-more, cell-ended, cell-none, left-start, left-more, left-none}
+use Rattle.netlist.proofs.RuleWalks.{walked_start, walked_more, walked_all, walked-before, tabled_start, tabled-within, tabled-room, tabled-more}
 use borrow.Author.Rules.{rules}
 use Rattle.netlist.proofs.rules.cells_answer.Goals as goal
 

@@ -1,6 +1,5 @@
 -- `netlist::rules::drive_answer` meets its contract: the lower of the register's answer and the operand's. Assumes nothing.
 use Rattle.netlist.proofs.RuleAnswers.{drive-joined}
-use borrow.Author.Rules.{rules}
 use Rattle.netlist.proofs.rules.drive_answer.Goals as goal
 
 pub returns : goal.returns

@@ -4,7 +4,6 @@ use Prim.Native.Nat.{ℕ}
 use native.Mathlib.Omega.{arith}
 use Rattle.words.specs.Widths.{is_width}
 use Rattle.tagged.proofs.ChoiceLaws.{first_taken, second-taken}
-use borrow.Author.Rules.{rules}
 use Rattle.netlist.proofs.rules.is_width.Goals as goal
 
 pub returns-in-Good : goal.returns-in-Good

@@ -4,7 +4,6 @@ use Rattle.tagged.proofs.AllBytesLaws.{read-bytes}
 use Rattle.netlist.specs.Reading.{netlist_in}
 use Rattle.netlist.proofs.RuleParts.{payload-long, declared-placed}
 use Rattle.netlist.proofs.RuleAnswers.{lists-joined}
-use borrow.Author.Rules.{rules}
 use Rattle.netlist.proofs.rules.lists_answer.Goals as goal
 
 pub declarations_answer-answer-requires : goal.declarations_answer-answer-requires

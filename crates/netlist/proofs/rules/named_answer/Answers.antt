@@ -3,7 +3,6 @@ use lib.ListN.{length, get_or}
 use borrow.Author.Tests.{le-leb, lt-leb, eq-eqb, ne_eqb}
 use native.Mathlib.Omega.{arith}
 use Rattle.netlist.specs.WalkAnswers.{answer_of}
-use borrow.Author.Rules.{rules}
 use Rattle.netlist.proofs.rules.named_answer.Goals as goal
 
 pub returns-then-not-is_width : goal.returns-then-not-is_width

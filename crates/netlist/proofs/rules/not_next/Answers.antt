@@ -1,5 +1,4 @@
 -- `netlist::rules::not_next` meets its contract: the two tests of the definition. Assumes nothing.
-use borrow.Author.Rules.{rules}
 use Rattle.netlist.proofs.rules.not_next.Goals as goal
 
 pub returns : goal.returns

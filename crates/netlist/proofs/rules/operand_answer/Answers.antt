@@ -5,7 +5,6 @@ use Rattle.netlist.proofs.RuleLaws.{counted}
 use Rattle.netlist.proofs.RuleAnswers.{one-operand}
 use Rattle.tagged.specs.Declarations.{width_of}
 use Rattle.netlist.specs.Lists.{cell_width}
-use borrow.Author.Rules.{rules}
 use Rattle.netlist.proofs.rules.operand_answer.Goals as goal
 
 pub returns-then-either : goal.returns-then-either

@@ -1,6 +1,5 @@
 -- `netlist::rules::own_answer` meets its contract: the first test that holds, where those before it do not. Assumes nothing.
 use Rattle.netlist.specs.WalkAnswers.{answer_of}
-use borrow.Author.Rules.{rules}
 use Rattle.netlist.proofs.rules.own_answer.Goals as goal
 
 pub returns-then-not-is_width : goal.returns-then-not-is_width

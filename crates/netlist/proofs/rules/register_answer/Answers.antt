@@ -1,7 +1,6 @@
 -- `netlist::rules::register_answer` meets its contract: the first test that holds, where those before it do not. Assumes nothing.
 use borrow.Author.Tests.{eq-eqb, ne_eqb}
 use Rattle.netlist.specs.WalkAnswers.{answer_of}
-use borrow.Author.Rules.{rules}
 use Rattle.netlist.proofs.rules.register_answer.Goals as goal
 
 pub returns-then-not_next : goal.returns-then-not_next

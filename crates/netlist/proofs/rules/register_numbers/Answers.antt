@@ -1,14 +1,11 @@
 -- `netlist::rules::register_numbers` meets its contract: the numbers listed, and those of the variables ahead, are all of them. Assumes nothing.
-use lib.ListN.{drop_of_length-le, length, take, drop}
+use lib.ListN.{drop_of_length-le, length, take}
 use borrow.Author.Rules.{set_long, rules}
-use Prim.Native.Nat.{◌<◌, ◌-◌, ◌≤◌}
-use mathlib.Core.Logic.{⊎_elim}
-use mathlib.Core.Path.{refl, ◌≡◌, sym, ap, ◌∙◌}
-use mathlib.Core.List.{append-nil, List, map, ◌++◌}
+use Prim.Native.Nat.{◌<◌}
+use mathlib.Core.Path.{refl, sym, ap, ◌∙◌}
+use mathlib.Core.List.{append-nil}
 use Rattle.netlist.proofs.RuleLaws.{counted}
 use Rattle.netlist.proofs.RegisterLaws.{register-listed, input-passed}
-use Rattle.tagged.specs.Limits.{most_variables}
-use Rattle.tagged.specs.Declarations.{Declaration}
 use Rattle.tagged.proofs.TableLaws.{mark_of}
 use Rattle.netlist.specs.Rules.{registers_from}
 use native.Mathlib.Omega.{arith}

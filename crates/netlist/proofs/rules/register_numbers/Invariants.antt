@@ -1,16 +1,11 @@
-use lib.ListN.{drop_of_length-le, length, take, drop}
-use borrow.Author.Rules.{set_long, rules}
-use Prim.Native.Nat.{◌<◌, ◌-◌, ◌≤◌}
-use mathlib.Core.Logic.{⊎_elim}
-use mathlib.Core.Path.{refl, ◌≡◌, sym, ap, ◌∙◌}
-use mathlib.Core.List.{append-nil, List, map, ◌++◌}
-use Rattle.netlist.proofs.RuleLaws.{counted}
-use Rattle.netlist.proofs.RegisterLaws.{register-listed, input-passed}
+use lib.ListN.{length, take, drop}
+use Prim.Native.Nat.{◌-◌, ◌≤◌}
+use mathlib.Core.Path.{◌≡◌}
+use mathlib.Core.List.{List, map, ◌++◌}
 use Rattle.tagged.specs.Limits.{most_variables}
 use Rattle.tagged.specs.Declarations.{Declaration}
 use Rattle.tagged.proofs.TableLaws.{mark_of}
 use Rattle.netlist.specs.Rules.{registers_from}
-use native.Mathlib.Omega.{arith}
 use Rattle.netlist.proofs.rules.register_numbers.Given as goal
 
 abbrev pub invariant-loop-at : goal.invariant-loop-at

@@ -10,7 +10,6 @@ use Rattle.tagged.specs.Refusals.{first_refusal}
 use Rattle.tagged.proofs.ChoiceLaws.{first_taken, second-taken}
 use Rattle.netlist.specs.Rules.{registers_from, whole_broken}
 use Rattle.netlist.specs.WalkAnswers.{whole_answer}
-use borrow.Author.Rules.{rules}
 use Rattle.netlist.proofs.rules.whole_answer.Goals as goal
 
 pub returns-then-drives-registers : goal.returns-then-drives-registers

@@ -4,7 +4,6 @@ use lib.ListN.{length}
 use Rattle.netlist.specs.Form.{cell_bytes}
 use Rattle.netlist.specs.declared.Cell.{Cell}
 use Rattle.netlist.proofs.PutLaws.{cell-size}
-use borrow.Author.Rules.{rules}
 use Rattle.netlist.proofs.write.cell_size.Goals as goal
 
 pub returns-in-One : goal.returns-in-One

@@ -7,7 +7,6 @@ use Rattle.tagged.specs.Fields.{all_bytes_of}
 use Rattle.tagged.proofs.WriteLaws.{wrote_then, wrote_none}
 use Rattle.netlist.specs.Lists.{operand}
 use Rattle.netlist.proofs.PutLaws.{past-operand, wrote-cell}
-use borrow.Author.Rules.{rules}
 use Rattle.netlist.proofs.write.put_both.Goals as goal
 
 pub put_operand-next-requires : goal.put_operand-next-requires

@@ -3,7 +3,6 @@ use native.Mathlib.Omega.{arith}
 use Rattle.tagged.proofs.WriteLaws.{wrote-outside}
 use Rattle.netlist.specs.Form.{cell_bytes}
 use Rattle.netlist.proofs.CellBytes.{cell-length}
-use borrow.Author.Rules.{rules}
 use Rattle.netlist.proofs.write.put_cell.Goals as goal
 
 pub overflow_add-result : goal.overflow_add-result

@@ -2,7 +2,6 @@
 use mathlib.Core.Path.{ap}
 use Rattle.netlist.specs.Form.{cell_bytes}
 use Rattle.netlist.proofs.PutLaws.{wrote_as}
-use borrow.Author.Rules.{rules}
 use Rattle.netlist.proofs.write.put_cell_bytes.Goals as goal
 
 pub returns-in-One : goal.returns-in-One

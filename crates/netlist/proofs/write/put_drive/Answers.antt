@@ -8,7 +8,6 @@ use Rattle.tagged.proofs.WriteLaws.{wrote_then}
 use Rattle.netlist.specs.Form.{operand_bytes, drive_bytes}
 use Rattle.netlist.proofs.CellBytes.{operand-length}
 use Rattle.netlist.proofs.PutLaws.{wrote-field}
-use borrow.Author.Rules.{rules}
 use Rattle.netlist.proofs.write.put_drive.Goals as goal
 
 pub put_byte-next-requires : goal.put_byte-next-requires

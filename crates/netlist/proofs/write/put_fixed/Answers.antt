@@ -9,7 +9,6 @@ use Rattle.tagged.proofs.WriteLaws.{wrote_then, wrote_none}
 use Rattle.netlist.specs.Lists.{operand, byte}
 use Rattle.netlist.specs.Form.{cell_bytes}
 use Rattle.netlist.proofs.PutLaws.{past-operand, wrote-cell}
-use borrow.Author.Rules.{rules}
 use Rattle.netlist.proofs.write.put_fixed.Goals as goal
 
 pub put_operand-next-requires : goal.put_operand-next-requires

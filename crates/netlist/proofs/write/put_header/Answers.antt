@@ -1,6 +1,5 @@
 -- `netlist::write::put_header` meets its contract: the tag, then the length. Assumes nothing.
 use Rattle.tagged.proofs.WriteLaws.{wrote_then}
-use borrow.Author.Rules.{rules}
 use Rattle.netlist.proofs.write.put_header.Goals as goal
 
 pub returns : goal.returns

@@ -1,6 +1,5 @@
 -- `netlist::write::put_kind` meets its contract: one writing after the other. Assumes nothing.
 use Rattle.tagged.proofs.WriteLaws.{wrote_then}
-use borrow.Author.Rules.{rules}
 use Rattle.netlist.proofs.write.put_kind.Goals as goal
 
 pub returns : goal.returns

@@ -2,7 +2,6 @@
 use mathlib.Core.Path.{ap}
 use Rattle.netlist.specs.Form.{operand_bytes}
 use Rattle.netlist.proofs.PutLaws.{wrote_as}
-use borrow.Author.Rules.{rules}
 use Rattle.netlist.proofs.write.put_operand.Goals as goal
 
 pub returns-in-Constant : goal.returns-in-Constant

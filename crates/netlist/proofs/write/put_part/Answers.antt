@@ -1,11 +1,8 @@
 -- `netlist::write::put_part` meets its contract: at each turn the bytes passed are written. Assumes nothing.
-use Prim.Native.Nat.{◌-◌}
 use native.Mathlib.Omega.{arith}
-use lib.ListN.{length, take, length-take}
-use Rattle.tagged.specs.Bytes.{Wrote}
+use lib.ListN.{length-take}
 use Rattle.tagged.proofs.WriteLaws.{wrote_none, wrote-length}
 use Rattle.netlist.proofs.PutLaws.{part-turn, part-done}
-use borrow.Author.Rules.{rules}
 use Rattle.netlist.proofs.write.put_part.Goals as goal
 
 pub loop-index-init : goal.loop-index-init

@@ -1,10 +1,6 @@
 use Prim.Native.Nat.{◌-◌}
-use native.Mathlib.Omega.{arith}
-use lib.ListN.{length, take, length-take}
+use lib.ListN.{length, take}
 use Rattle.tagged.specs.Bytes.{Wrote}
-use Rattle.tagged.proofs.WriteLaws.{wrote_none, wrote-length}
-use Rattle.netlist.proofs.PutLaws.{part-turn, part-done}
-use borrow.Author.Rules.{rules}
 use Rattle.netlist.proofs.write.put_part.Given as goal
 
 abbrev pub invariant-loop-index : goal.invariant-loop-index

@@ -3,7 +3,6 @@ use native.Mathlib.Omega.{arith}
 use Rattle.tagged.specs.Bytes.{two_bytes}
 use Rattle.tagged.proofs.WriteLaws.{wrote_then}
 use Rattle.netlist.proofs.PutLaws.{wrote-tagged}
-use borrow.Author.Rules.{rules}
 use Rattle.netlist.proofs.write.put_start.Goals as goal
 
 pub put_byte-requires : goal.put_byte-requires

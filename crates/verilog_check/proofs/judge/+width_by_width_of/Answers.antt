@@ -1,12 +1,10 @@
 -- The functions of `verilog_check::judge` that give an expression's width meet their contracts: by what stands at the front, the depth left falling. Assumes nothing.
-use borrow.Author.Rules.{rules}
 use native.Mathlib.Omega.{arith}
 use mathlib.Core.Path.{sym, ap, ◌∙◌}
 use Rattle.tagged.proofs.FieldLaws.{open-whole}
 use Rattle.verilog.specs.Rules.{expression_width}
 use Rattle.verilog.proofs.FrontReading.{no-level, read-expression, read-other, read_none}
 use Rattle.verilog_check.proofs.TableWidths.{width_read}
-use Prim.Native.Nat.{ℕ, ◌<◌, ◌+◌, ◌*◌}
 use Rattle.verilog_check.proofs.judge.+width_by_width_of.Goals as goal
 
 --

@@ -2,7 +2,6 @@
 use lib.Dec.{eqb}
 use lib.ListN.{get_or}
 use Rattle.verilog_check.proofs.OtherArms.{no-assignment}
-use borrow.Author.Rules.{rules}
 use Rattle.verilog_check.proofs.judge.assigns_missing.Goals as goal
 
 pub returns-in-Assign : goal.returns-in-Assign

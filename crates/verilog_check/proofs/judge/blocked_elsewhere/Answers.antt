@@ -1,6 +1,5 @@
 -- `verilog_check::judge::blocked_elsewhere` meets its contract: each test in turn. Assumes nothing.
 use borrow.Author.Tests.{eq-eqb, ne_eqb}
-use borrow.Author.Rules.{rules}
 use Rattle.verilog_check.proofs.judge.blocked_elsewhere.Goals as goal
 
 pub returns-then-first-eq0 : goal.returns-then-first-eq0

@@ -6,7 +6,6 @@ use native.Mathlib.Omega.{arith}
 use Rattle.words.specs.Widths.{is_width}
 use Rattle.tagged.proofs.ChoiceLaws.{first_taken, second-taken}
 use Rattle.verilog_check.proofs.OtherArms.{no-constant}
-use borrow.Author.Rules.{rules}
 use Rattle.verilog_check.proofs.judge.constant_broken.Goals as goal
 
 pub returns-in-Good : goal.returns-in-Good

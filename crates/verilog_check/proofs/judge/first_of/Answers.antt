@@ -1,7 +1,6 @@
 -- `verilog_check::judge::first_of` meets its contract: past the end the table gives 0. Assumes nothing.
 use mathlib.Core.Path.{sym}
 use lib.ListN.{get_or-eq_default}
-use borrow.Author.Rules.{rules}
 use Rattle.verilog_check.proofs.judge.first_of.Goals as goal
 
 pub returns-else-place-firsts : goal.returns-else-place-firsts

@@ -4,7 +4,6 @@ use native.Mathlib.Omega.{arith}
 use lib.ListN.{get_or}
 use Rattle.tagged.proofs.FieldLaws.{open-whole}
 use Rattle.verilog.proofs.FrontReading.{front-field, front-none}
-use borrow.Author.Rules.{rules}
 use Rattle.verilog_check.proofs.judge.item_width.Goals as goal
 
 pub overflow_add-size : goal.overflow_add-size

@@ -3,7 +3,6 @@ use mathlib.Core.Path.{sym, ◌∙◌}
 use Rattle.tagged.specs.Refusals.{first_refusal}
 use Rattle.verilog.specs.Rules.{breaks}
 use Rattle.verilog_check.specs.Judged.{judged}
-use borrow.Author.Rules.{rules}
 use Rattle.verilog_check.proofs.judge.judge_expression.Goals as goal
 
 pub returns-then-constant_broken : goal.returns-then-constant_broken

@@ -3,7 +3,6 @@ use borrow.Author.Tests.{eq-eqb, ne_eqb}
 use Rattle.tagged.specs.Refusals.{first_refusal}
 use Rattle.verilog.specs.Rules.{expression_width, breaks}
 use Rattle.verilog_check.specs.Judged.{judged}
-use borrow.Author.Rules.{rules}
 use Rattle.verilog_check.proofs.judge.judge_item.Goals as goal
 
 pub returns-then-item_width-selector_width : goal.returns-then-item_width-selector_width

@@ -9,7 +9,6 @@ use Rattle.tagged.specs.Refusals.{first_refusal}
 use Rattle.tagged.proofs.ChoiceLaws.{first_taken, second-taken}
 use Rattle.verilog.specs.Rules.{breaks}
 use Rattle.verilog_check.specs.Judged.{judged}
-use borrow.Author.Rules.{rules}
 use Rattle.verilog_check.proofs.judge.judge_process.Goals as goal
 
 pub returns-in-Good : goal.returns-in-Good

@@ -1,7 +1,6 @@
 -- `verilog_check::judge::kind_differs` meets its contract: each arm is the statement that the match found. Assumes nothing.
 use Rattle.verilog_check.specs.Tables.{other_kind}
 use Rattle.verilog_check.proofs.OtherArms.{no-assignment}
-use borrow.Author.Rules.{rules}
 use Rattle.verilog_check.proofs.judge.kind_differs.Goals as goal
 
 pub returns-in-Assign : goal.returns-in-Assign

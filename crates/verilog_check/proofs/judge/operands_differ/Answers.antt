@@ -1,7 +1,6 @@
 -- `verilog_check::judge::operands_differ` meets its contract: the widths of both operands. Assumes nothing.
 use Rattle.verilog_check.specs.Tables.{variables_of}
 use Rattle.verilog_check.proofs.OtherArms.{no_second}
-use borrow.Author.Rules.{rules}
 use Rattle.verilog_check.proofs.judge.operands_differ.Goals as goal
 
 pub returns-in-Two : goal.returns-in-Two

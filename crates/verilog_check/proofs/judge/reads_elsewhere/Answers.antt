@@ -1,7 +1,6 @@
 -- `verilog_check::judge::reads_elsewhere` meets its contract: each arm is the expression that the match found. Assumes nothing.
 use Rattle.verilog_check.specs.Tables.{blocked_elsewhere}
 use Rattle.verilog_check.proofs.OtherArms.{no_read}
-use borrow.Author.Rules.{rules}
 use Rattle.verilog_check.proofs.judge.reads_elsewhere.Goals as goal
 
 pub returns-in-Variable : goal.returns-in-Variable

@@ -2,7 +2,6 @@
 use lib.Dec.{leb}
 use lib.ListN.{length}
 use Rattle.verilog_check.proofs.OtherArms.{no_read}
-use borrow.Author.Rules.{rules}
 use Rattle.verilog_check.proofs.judge.reads_missing.Goals as goal
 
 pub returns-in-Variable : goal.returns-in-Variable

@@ -2,7 +2,6 @@
 use Rattle.verilog_check.specs.Tables.{variables_of}
 use Rattle.verilog_check.proofs.TableWidths.{width_read}
 use Rattle.verilog_check.proofs.OtherArms.{no-bit}
-use borrow.Author.Rules.{rules}
 use Rattle.verilog_check.proofs.judge.reads_outside.Goals as goal
 
 pub returns-in-FixedBit : goal.returns-in-FixedBit

@@ -1,6 +1,5 @@
 -- `verilog_check::judge::statement_differs` meets its contract: each arm is the statement that the match found, with the widths that the calls gave. Assumes nothing.
 use Rattle.verilog_check.proofs.TableWidths.{width_read}
-use borrow.Author.Rules.{rules}
 use Rattle.verilog_check.proofs.judge.statement_differs.Goals as goal
 
 pub returns-in-Assign : goal.returns-in-Assign

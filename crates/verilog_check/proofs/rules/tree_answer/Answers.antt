@@ -6,7 +6,6 @@ use Rattle.tagged.specs.Declarations.{declarations_in}
 use Rattle.tagged.proofs.AllBytesLaws.{read-bytes}
 use Rattle.tagged.proofs.TableLaws.{widths-long, marks-long, zeros-at}
 use Rattle.verilog_check.proofs.TreeAnswers.{payload-long, list-long, answered}
-use borrow.Author.Rules.{rules}
 use Rattle.verilog_check.proofs.rules.tree_answer.Goals as goal
 
 pub declared_bytes-bytes-requires : goal.declared_bytes-bytes-requires

@@ -2,7 +2,6 @@
 use mathlib.Core.Path.{refl, sym}
 use Rattle.verilog_check.specs.Survey.{begun_after}
 use Rattle.verilog_check.proofs.SurveySteps.{begun-other}
-use borrow.Author.Rules.{rules}
 use Rattle.verilog_check.proofs.survey.begun_after.Goals as goal
 
 pub returns-in-Process : goal.returns-in-Process

@@ -3,7 +3,6 @@ use mathlib.Core.Path.{sym}
 use native.Mathlib.Omega.{arith}
 use Rattle.verilog_check.specs.Survey.{noted}
 use Rattle.verilog_check.proofs.SurveySteps.{kind-within, noted-choice, noted_other}
-use borrow.Author.Rules.{rules}
 use Rattle.verilog_check.proofs.survey.note.Goals as goal
 
 pub overflow_add-begun : goal.overflow_add-begun

@@ -2,7 +2,6 @@
 use mathlib.Core.Path.{sym, ◌∙◌}
 use lib.Seq.{set_out}
 use Rattle.verilog_check.proofs.SurveySteps.{first-new, first-kept}
-use borrow.Author.Rules.{rules}
 use Rattle.verilog_check.proofs.survey.put_first.Goals as goal
 
 pub returns-then-place-firsts : goal.returns-then-place-firsts

@@ -2,7 +2,6 @@
 use mathlib.Core.Path.{refl, sym}
 use Rattle.verilog_check.specs.Survey.{step_over}
 use Rattle.verilog_check.proofs.SurveySteps.{over-assignment, over-other}
-use borrow.Author.Rules.{rules}
 use Rattle.verilog_check.proofs.survey.step_over.Goals as goal
 
 pub returns-in-If : goal.returns-in-If

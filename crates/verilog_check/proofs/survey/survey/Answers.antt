@@ -1,9 +1,6 @@
 -- `verilog_check::survey::survey` meets its contract: the table so far, with what the rest of the list adds, is what the list adds. Assumes nothing.
-use mathlib.Core.Path.{◌≡◌, refl, ◌∙◌}
-use Prim.Native.Nat.{◌-◌, ◌≤◌}
+use mathlib.Core.Path.{refl, ◌∙◌}
 use native.Mathlib.Omega.{arith}
-use lib.ListN.{length, drop}
-use Rattle.verilog_check.specs.Survey.{survey_from}
 use Rattle.verilog_check.proofs.SurveySteps.{field-within, turn-ended, turn-within, turn-begun, turn-noted, turn-length}
 use borrow.Author.Rules.{rules}
 use Rattle.verilog_check.proofs.survey.survey.Goals as goal

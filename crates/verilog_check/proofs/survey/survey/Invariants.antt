@@ -1,10 +1,7 @@
-use mathlib.Core.Path.{◌≡◌, refl, ◌∙◌}
+use mathlib.Core.Path.{◌≡◌}
 use Prim.Native.Nat.{◌-◌, ◌≤◌}
-use native.Mathlib.Omega.{arith}
 use lib.ListN.{length, drop}
 use Rattle.verilog_check.specs.Survey.{survey_from}
-use Rattle.verilog_check.proofs.SurveySteps.{field-within, turn-ended, turn-within, turn-begun, turn-noted, turn-length}
-use borrow.Author.Rules.{rules}
 use Rattle.verilog_check.proofs.survey.survey.Given as goal
 
 abbrev pub invariant-loop-sort : goal.invariant-loop-sort

@@ -1,16 +1,11 @@
 -- The functions of `verilog_check::walk` for expressions meet their contracts: by the steps of the walk, the depth left falling. Assumes nothing.
 use borrow.Author.Rules.{rules}
 use native.Mathlib.Omega.{arith}
-use mathlib.Core.Path.{◌≡◌}
-use mathlib.Core.List.{List}
-use Prim.Native.Nat.{ℕ, ◌<◌, ◌≤◌, ◌+◌, ◌-◌, ◌*◌}
+use Prim.Native.Nat.{◌-◌}
 use native.Mathlib.Nat.{add-zero}
-use lib.ListN.{length, drop}
-use Rattle.tagged.specs.Fields.{fields_at}
-use Rattle.tagged.specs.Refusals.{lower_refusal}
 use Rattle.tagged.proofs.FieldLists.{field-within}
 use Rattle.verilog_check.specs.Judged.{field_answer}
-use Rattle.verilog_check.specs.Walk.{Walker, walk_all, walk_expression}
+use Rattle.verilog_check.specs.Walk.{walk_expression}
 use Rattle.verilog_check.proofs.WalkSteps.{payload-within, all-steps, walk-done, walk-next, own_alone, own-joined, behind-short, behind, expression-deep, expression-other, expression-of}
 use Rattle.verilog_check.proofs.walk.+expression_operands.Goals as goal
 

@@ -1,17 +1,12 @@
 -- What falls with each call and each turn, and what the loops keep. Assumes nothing.
-use borrow.Author.Rules.{rules}
-use native.Mathlib.Omega.{arith}
 use mathlib.Core.Path.{◌≡◌}
 use mathlib.Core.List.{List}
-use Prim.Native.Nat.{ℕ, ◌<◌, ◌≤◌, ◌+◌, ◌-◌, ◌*◌}
-use native.Mathlib.Nat.{add-zero}
+use Prim.Native.Nat.{ℕ, ◌≤◌, ◌+◌, ◌-◌, ◌*◌}
 use lib.ListN.{length, drop}
 use Rattle.tagged.specs.Fields.{fields_at}
 use Rattle.tagged.specs.Refusals.{lower_refusal}
-use Rattle.tagged.proofs.FieldLists.{field-within}
 use Rattle.verilog_check.specs.Judged.{field_answer}
 use Rattle.verilog_check.specs.Walk.{Walker, walk_all, walk_expression}
-use Rattle.verilog_check.proofs.WalkSteps.{payload-within, all-steps, walk-done, walk-next, own_alone, own-joined, behind-short, behind, expression-deep, expression-other, expression-of}
 use Rattle.verilog_check.proofs.walk.+expression_operands.Given as goal
 
 abbrev pub decreases-expression : goal.decreases-expression

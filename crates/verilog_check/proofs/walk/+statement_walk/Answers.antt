@@ -1,18 +1,13 @@
 -- The functions of `verilog_check::walk` for statements and what they hold meet their contracts: by the steps of the walk, the depth left falling.
-use Prim.Native.Nat.{ℕ, ◌<◌, ◌+◌, ◌*◌, ◌≤◌, ◌-◌}
+use Prim.Native.Nat.{◌-◌}
 use borrow.Author.Rules.{rules}
 use Rattle.verilog_check.specs.Judged.{field_answer}
 use Rattle.verilog_check.proofs.WalkSteps.{own-joined, item-of, part-deep, part-other, part-expression, part-item, part-block, payload-within, all-steps, walk-done, walk-next, own_alone, behind-short, behind, statement-deep, statement-other, statement-of}
 use native.Mathlib.Omega.{arith}
-use mathlib.Core.Path.{◌≡◌, refl}
+use mathlib.Core.Path.{refl}
 use native.Mathlib.Nat.{add-zero}
-use lib.ListN.{length, drop}
-use Rattle.tagged.specs.Fields.{fields_at}
-use Rattle.tagged.specs.Refusals.{lower_refusal}
 use Rattle.tagged.proofs.FieldLists.{field-within}
-use Rattle.verilog.specs.Rules.{expression_width}
-use Rattle.verilog_check.specs.Tables.{variables_of}
-use Rattle.verilog_check.specs.Walk.{Walker, walk_all, walk_part, walk_statement}
+use Rattle.verilog_check.specs.Walk.{walk_part}
 use Rattle.verilog_check.proofs.walk.+statement_walk.Goals as goal
 
 -- `item`: an item by itself, and then its constant and its block.

@@ -1,15 +1,10 @@
 -- What falls with each call and each turn, and what the loops keep. Assumes nothing.
-use Prim.Native.Nat.{ℕ, ◌<◌, ◌+◌, ◌*◌, ◌≤◌, ◌-◌}
-use borrow.Author.Rules.{rules}
+use Prim.Native.Nat.{◌+◌, ◌*◌, ◌≤◌, ◌-◌}
 use Rattle.verilog_check.specs.Judged.{field_answer}
-use Rattle.verilog_check.proofs.WalkSteps.{own-joined, item-of, part-deep, part-other, part-expression, part-item, part-block, payload-within, all-steps, walk-done, walk-next, own_alone, behind-short, behind, statement-deep, statement-other, statement-of}
-use native.Mathlib.Omega.{arith}
-use mathlib.Core.Path.{◌≡◌, refl}
-use native.Mathlib.Nat.{add-zero}
+use mathlib.Core.Path.{◌≡◌}
 use lib.ListN.{length, drop}
 use Rattle.tagged.specs.Fields.{fields_at}
 use Rattle.tagged.specs.Refusals.{lower_refusal}
-use Rattle.tagged.proofs.FieldLists.{field-within}
 use Rattle.verilog.specs.Rules.{expression_width}
 use Rattle.verilog_check.specs.Tables.{variables_of}
 use Rattle.verilog_check.specs.Walk.{Walker, walk_all, walk_part, walk_statement}

@@ -1,7 +1,6 @@
 -- `verilog_check::walk::process_answer` meets its contract: a process by itself first, then its statements. Assumes nothing.
 use Rattle.verilog_check.specs.Judged.{field_answer}
 use Rattle.verilog_check.proofs.WalkSteps.{own-joined, process-other, process-of}
-use borrow.Author.Rules.{rules}
 use Rattle.verilog_check.proofs.walk.process_answer.Goals as goal
 
 pub returns-in-Process : goal.returns-in-Process

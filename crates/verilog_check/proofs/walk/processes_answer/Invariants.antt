@@ -1,19 +1,14 @@
 use mathlib.Core.Path.{◌≡◌}
 use mathlib.Core.List.{List}
 use Prim.Native.Nat.{ℕ, ◌≤◌, ◌+◌, ◌-◌}
-use native.Mathlib.Nat.{add-zero}
 use lib.ListN.{length, drop}
 use Rattle.tagged.specs.Fields.{Placed, Field, fields_at}
 use Rattle.tagged.specs.Refusals.{lower_refusal}
 use Rattle.tagged.specs.declared.answers.Answer.{Answer}
-use Rattle.tagged.proofs.FieldLists.{field-within}
 use Rattle.verilog.specs.Rules.{expression_width}
 use Rattle.verilog_check.specs.Tables.{variables_of}
 use Rattle.verilog_check.specs.Judged.{field_answer}
 use Rattle.verilog_check.specs.Walk.{walk_processes}
-use Rattle.verilog_check.proofs.WalkSteps.{payload-within, process-steps, walk-done, walk-next}
-use borrow.Author.Rules.{rules}
-use native.Mathlib.Omega.{arith}
 use Rattle.verilog_check.proofs.walk.processes_answer.Given as goal
 
 abbrev pub invariant-loop-sort : goal.invariant-loop-sort

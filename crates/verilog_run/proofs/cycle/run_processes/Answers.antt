@@ -5,7 +5,6 @@ use Prim.Native.Nat.{ℕ}
 use lib.Seq.{sets}
 use Rattle.tagged.specs.Rows.{row_bytes}
 use Rattle.verilog_run.specs.Execution.{settled_state}
-use borrow.Author.Rules.{rules}
 use Rattle.verilog_run.proofs.cycle.run_processes.Goals as goal
 
 pub returns : goal.returns

@@ -1,12 +1,8 @@
 -- `verilog_run::cycle::settle` meets its contract: at each turn the values settled and those still to be settled are the whole. Assumes nothing.
-use mathlib.Core.Path.{◌≡◌, refl}
-use mathlib.Core.List.{◌++◌}
-use Prim.Native.Nat.{◌-◌}
-use lib.ListN.{length, take, drop, length-set}
-use Rattle.verilog.specs.Cycle.{settled}
+use mathlib.Core.Path.{refl}
+use lib.ListN.{length-set}
 use Rattle.verilog_run.specs.Execution.{delayed_by}
 use Rattle.verilog_run.proofs.SettledLaws.{settled-turn, settled-done}
-use borrow.Author.Rules.{rules}
 use Rattle.verilog_run.proofs.cycle.settle.Goals as goal
 
 pub loop-at-init : goal.loop-at-init

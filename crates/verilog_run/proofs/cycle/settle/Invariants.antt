@@ -1,11 +1,9 @@
-use mathlib.Core.Path.{◌≡◌, refl}
+use mathlib.Core.Path.{◌≡◌}
 use mathlib.Core.List.{◌++◌}
 use Prim.Native.Nat.{◌-◌}
-use lib.ListN.{length, take, drop, length-set}
+use lib.ListN.{length, take, drop}
 use Rattle.verilog.specs.Cycle.{settled}
 use Rattle.verilog_run.specs.Execution.{delayed_by}
-use Rattle.verilog_run.proofs.SettledLaws.{settled-turn, settled-done}
-use borrow.Author.Rules.{rules}
 use Rattle.verilog_run.proofs.cycle.settle.Given as goal
 
 abbrev pub invariant-loop-at : goal.invariant-loop-at

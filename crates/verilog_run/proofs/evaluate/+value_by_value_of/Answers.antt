@@ -1,11 +1,9 @@
 -- `verilog_run::evaluate::value_by` and `value_of` meet their contracts: by what is read at the front of a part, the depth left falling. Assumes nothing.
 use mathlib.Core.Path.{sym, ap, ◌∙◌}
-use Prim.Native.Nat.{ℕ, ◌<◌, ◌+◌, ◌*◌}
 use native.Mathlib.Omega.{arith}
 use Rattle.tagged.proofs.FieldLaws.{open-whole}
 use Rattle.verilog_run.specs.Numbers.{number_in}
 use Rattle.verilog.proofs.FrontReading.{no-level, read-expression, read-other, read_none}
-use borrow.Author.Rules.{rules}
 use Rattle.verilog_run.proofs.evaluate.+value_by_value_of.Goals as goal
 
 --

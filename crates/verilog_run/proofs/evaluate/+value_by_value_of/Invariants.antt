@@ -1,11 +1,5 @@
 -- What falls with each call and each turn, and what the loops keep. Assumes nothing.
-use mathlib.Core.Path.{sym, ap, ◌∙◌}
-use Prim.Native.Nat.{ℕ, ◌<◌, ◌+◌, ◌*◌}
-use native.Mathlib.Omega.{arith}
-use Rattle.tagged.proofs.FieldLaws.{open-whole}
-use Rattle.verilog_run.specs.Numbers.{number_in}
-use Rattle.verilog.proofs.FrontReading.{no-level, read-expression, read-other, read_none}
-use borrow.Author.Rules.{rules}
+use Prim.Native.Nat.{◌+◌, ◌*◌}
 use Rattle.verilog_run.proofs.evaluate.+value_by_value_of.Given as goal
 
 abbrev pub decreases-value_by : goal.decreases-value_by

@@ -1,5 +1,4 @@
 -- `verilog_run::evaluate::one_of` meets its contract: the width and the number are what the two calls give. Assumes nothing.
-use borrow.Author.Rules.{rules}
 use Rattle.verilog_run.proofs.evaluate.one_of.Goals as goal
 
 pub returns : goal.returns

@@ -1,13 +1,11 @@
 -- The functions of `verilog_run::execute` for statements, blocks and items meet their contracts: by the laws of a run, the depth left falling.
-use Prim.Native.Nat.{ℕ, ◌<◌, ◌+◌, ◌*◌, ◌≤◌, ◌-◌}
 use borrow.Author.Rules.{rules}
 use Rattle.verilog_run.proofs.ExecutionSteps.{block-deep, block-of, block-other, after-within, case-run, front-found, front-none, if-one, if-other, item-deep, item-of, payload-within, items-none, items-other, items-block, items-taken, items-turn, statement-deep, statement-of, statement-other, all_done, all-turn}
 use native.Mathlib.Omega.{arith}
-use mathlib.Core.Path.{ap, sym, ◌∙◌, ◌≡◌, refl}
-use lib.ListN.{length, drop}
+use mathlib.Core.Path.{ap, sym, ◌∙◌, refl}
+use lib.ListN.{length}
 use Rattle.tagged.proofs.FieldLaws.{open-whole}
-use Rattle.verilog_run.specs.Execution.{state_of, run_block, run_items, run_item, run_all, run_statement}
-use Rattle.tagged.specs.Fields.{fields_at}
+use Rattle.verilog_run.specs.Execution.{state_of, run_block, run_item, run_statement}
 use Rattle.tagged.proofs.FieldLists.{field-within}
 use Rattle.verilog_run.proofs.execute.+execution.Goals as goal
 

@@ -1,6 +1,5 @@
 -- `verilog_run::execute::assign` meets its contract: the variable and the number are what the calls before the change give. Assumes nothing.
 use Rattle.verilog_run.specs.Execution.{front_number, assigned}
-use borrow.Author.Rules.{rules}
 use Rattle.verilog_run.proofs.execute.assign.Goals as goal
 
 pub returns : goal.returns

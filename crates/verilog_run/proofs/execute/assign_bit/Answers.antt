@@ -1,6 +1,5 @@
 -- `verilog_run::execute::assign_bit` meets its contract: the variable and the new number are what the calls before the change give. Assumes nothing.
 use Rattle.verilog_run.specs.Execution.{front_number, assigned_bit}
-use borrow.Author.Rules.{rules}
 use Rattle.verilog_run.proofs.execute.assign_bit.Goals as goal
 
 pub returns : goal.returns

@@ -1,7 +1,6 @@
 -- `verilog_run::execute::change` meets its contract: each kind puts the number into its own table and leaves the other alone. Assumes nothing.
 use mathlib.Core.Path.{ap}
 use Rattle.verilog_run.specs.Execution.{state_of}
-use borrow.Author.Rules.{rules}
 use Rattle.verilog_run.proofs.execute.change.Goals as goal
 
 pub returns-in-Blocking : goal.returns-in-Blocking

@@ -1,5 +1,4 @@
 -- `verilog_run::execute::held_by` meets its contract: each kind reads its own table. Assumes nothing.
-use borrow.Author.Rules.{rules}
 use Rattle.verilog_run.proofs.execute.held_by.Goals as goal
 
 pub returns-in-Blocking : goal.returns-in-Blocking

@@ -5,7 +5,6 @@ use lib.ListN.{drop}
 use Rattle.tagged.specs.Bytes.{four_of}
 use Rattle.tagged.proofs.FieldLaws.{open-whole}
 use Rattle.verilog.proofs.FrontReading.{front-field, front-none}
-use borrow.Author.Rules.{rules}
 use Rattle.verilog_run.proofs.execute.item_value.Goals as goal
 
 pub overflow_add-size : goal.overflow_add-size

@@ -1,6 +1,5 @@
 -- `verilog_run::execute::process` meets its contract: each arm is the sort that the match found. Assumes nothing.
 use Rattle.verilog_run.proofs.ExecutionSteps.{process-of, process-other}
-use borrow.Author.Rules.{rules}
 use Rattle.verilog_run.proofs.execute.process.Goals as goal
 
 pub returns-in-Process : goal.returns-in-Process

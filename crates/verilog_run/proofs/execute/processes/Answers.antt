@@ -1,10 +1,7 @@
 -- `verilog_run::execute::processes` meets its contract: what the rest of the list makes of the values so far is what the whole list makes of the first. Assumes nothing.
-use mathlib.Core.Path.{◌≡◌, refl}
-use Prim.Native.Nat.{◌≤◌, ◌+◌, ◌-◌}
-use lib.ListN.{length, drop}
-use Rattle.tagged.specs.Fields.{fields_at}
+use mathlib.Core.Path.{refl}
 use Rattle.tagged.proofs.FieldLists.{field-within}
-use Rattle.verilog_run.specs.Execution.{state_of, run_all, run_process, run_processes}
+use Rattle.verilog_run.specs.Execution.{run_process, run_processes}
 use Rattle.verilog_run.proofs.ExecutionSteps.{payload-within, all_done, all-turn}
 use borrow.Author.Rules.{rules}
 use native.Mathlib.Omega.{arith}

@@ -1,12 +1,8 @@
-use mathlib.Core.Path.{◌≡◌, refl}
+use mathlib.Core.Path.{◌≡◌}
 use Prim.Native.Nat.{◌≤◌, ◌+◌, ◌-◌}
 use lib.ListN.{length, drop}
 use Rattle.tagged.specs.Fields.{fields_at}
-use Rattle.tagged.proofs.FieldLists.{field-within}
 use Rattle.verilog_run.specs.Execution.{state_of, run_all, run_process, run_processes}
-use Rattle.verilog_run.proofs.ExecutionSteps.{payload-within, all_done, all-turn}
-use borrow.Author.Rules.{rules}
-use native.Mathlib.Omega.{arith}
 use Rattle.verilog_run.proofs.execute.processes.Given as goal
 
 abbrev pub invariant-loop-sort : goal.invariant-loop-sort
