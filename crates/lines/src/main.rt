@@ -1,96 +1,107 @@
 // Document 01, "Either side of each line": the lines that are not proved by the table in proofs/, run by the proved code, a line each.
 #![tactic(auto)]
 
-use libc::STDOUT_FILENO;
 use response::put_refusal;
+use std::io;
 use tagged::answers::Answer;
 use tagged::bytes::front;
 use tagged::limits::ModuleFile;
 use verilog_check::check;
 
 // Writes what the check answers to a file.
-fn line(name: &[u8], file: &[u8]) {
-    io::write_all(STDOUT_FILENO, name);
-    io::write_all(STDOUT_FILENO, b": ");
+fn line(rt: &impl Print, name: &str, file: &[u8]) -> io::Result<()> {
+    print!(rt; "{name}: ")?;
     match check(file) {
-        Answer::Accepted => {
-            io::write_all(STDOUT_FILENO, b"accepted\n");
-        }
+        Answer::Accepted => rt.println("accepted"),
         Answer::Refused(rule, place) => {
             let mut text = [0u8; 64];
             let size = put_refusal(&mut text, rule, place);
-            io::write_all(STDOUT_FILENO, front(&text, size));
+            rt.write_all(front(&text, size))
         }
     }
 }
 
 // The longest module, and a byte more: rule 1 passes the first, whose zeros rule 2 then refuses.
-fn longest() {
+fn longest(rt: &impl Print) -> io::Result<()> {
     let mut file = [0u8; ModuleFile::MAX + 1];
     file[0] = 0x01;
     file[1] = 0x3F;
     file[2] = 0xFD;
     line(
-        b"16,384 bytes, zeros in a module",
+        rt,
+        "16,384 bytes, zeros in a module",
         front(&file, ModuleFile::MAX),
-    );
+    )?;
     file[2] = 0xFE;
-    line(b"16,385 bytes, zeros in a module", &file);
+    line(rt, "16,385 bytes, zeros in a module", &file)
 }
 
-fn main() {
+fn main(rt: HostRuntime) -> io::Result<()> {
     line(
-        b"vector of 8, index of width 3",
+        &rt,
+        "vector of 8, index of width 3",
         b"\x01\x00\x22\x02\x00\x02\x08\x76\x02\x00\x02\x03\x69\x03\x00\x06\x01\x00\x00\x00\x00\x62\x04\x00\x0C\x10\x00\x09\x02\x23\x00\x05\x00\x21\x00\x01\x01",
-    );
+    )?;
     line(
-        b"vector of 8, index of width 4",
+        &rt,
+        "vector of 8, index of width 4",
         b"\x01\x00\x22\x02\x00\x02\x08\x76\x02\x00\x02\x04\x69\x03\x00\x06\x01\x00\x00\x00\x00\x62\x04\x00\x0C\x10\x00\x09\x02\x23\x00\x05\x00\x21\x00\x01\x01",
-    );
+    )?;
     line(
-        b"vector of 6, index of width 2",
+        &rt,
+        "vector of 6, index of width 2",
         b"\x01\x00\x22\x02\x00\x02\x06\x76\x02\x00\x02\x02\x69\x03\x00\x06\x01\x00\x00\x00\x00\x62\x04\x00\x0C\x10\x00\x09\x02\x23\x00\x05\x00\x21\x00\x01\x01",
-    );
+    )?;
     line(
-        b"vector of 6, index of width 3",
+        &rt,
+        "vector of 6, index of width 3",
         b"\x01\x00\x22\x02\x00\x02\x06\x76\x02\x00\x02\x03\x69\x03\x00\x06\x01\x00\x00\x00\x00\x62\x04\x00\x0C\x10\x00\x09\x02\x23\x00\x05\x00\x21\x00\x01\x01",
-    );
+    )?;
     line(
-        b"vector of 1, index of width 1",
+        &rt,
+        "vector of 1, index of width 1",
         b"\x01\x00\x22\x02\x00\x02\x01\x76\x02\x00\x02\x01\x69\x03\x00\x06\x01\x00\x00\x00\x00\x62\x04\x00\x0C\x10\x00\x09\x02\x23\x00\x05\x00\x21\x00\x01\x01",
-    );
+    )?;
     line(
-        b"vector of 1, index of width 2",
+        &rt,
+        "vector of 1, index of width 2",
         b"\x01\x00\x22\x02\x00\x02\x01\x76\x02\x00\x02\x02\x69\x03\x00\x06\x01\x00\x00\x00\x00\x62\x04\x00\x0C\x10\x00\x09\x02\x23\x00\x05\x00\x21\x00\x01\x01",
-    );
+    )?;
     line(
-        b"vector of 1, index of width 5",
+        &rt,
+        "vector of 1, index of width 5",
         b"\x01\x00\x22\x02\x00\x02\x01\x76\x02\x00\x02\x05\x69\x03\x00\x06\x01\x00\x00\x00\x00\x62\x04\x00\x0C\x10\x00\x09\x02\x23\x00\x05\x00\x21\x00\x01\x01",
-    );
+    )?;
     line(
-        b"vector of 1, index of width 31",
+        &rt,
+        "vector of 1, index of width 31",
         b"\x01\x00\x22\x02\x00\x02\x01\x76\x02\x00\x02\x1F\x69\x03\x00\x06\x01\x00\x00\x00\x00\x62\x04\x00\x0C\x10\x00\x09\x02\x23\x00\x05\x00\x21\x00\x01\x01",
-    );
+    )?;
     line(
-        b"vector of 1, index of width 32",
+        &rt,
+        "vector of 1, index of width 32",
         b"\x01\x00\x22\x02\x00\x02\x01\x76\x02\x00\x02\x20\x69\x03\x00\x06\x01\x00\x00\x00\x00\x62\x04\x00\x0C\x10\x00\x09\x02\x23\x00\x05\x00\x21\x00\x01\x01",
-    );
+    )?;
     line(
-        b"initial value 15 in 4 bits",
+        &rt,
+        "initial value 15 in 4 bits",
         b"\x01\x00\x09\x03\x00\x06\x04\x00\x00\x00\x0F\x72",
-    );
+    )?;
     line(
-        b"initial value 16 in 4 bits",
+        &rt,
+        "initial value 16 in 4 bits",
         b"\x01\x00\x09\x03\x00\x06\x04\x00\x00\x00\x10\x72",
-    );
+    )?;
     // In these two files a dollar sign is the tag of a not, 24.
     line(
-        b"28 nots round a variable",
+        &rt,
+        "28 nots round a variable",
         b"\x01\x00h\x03\x00\x06\x01\x00\x00\x00\x00r\x04\x00\x5C\x10\x00Y\x00$\x00U$\x00R$\x00O$\x00L$\x00I$\x00F$\x00C$\x00@$\x00=$\x00:$\x007$\x004$\x001$\x00.$\x00+$\x00($\x00%$\x00\x22$\x00\x1F$\x00\x1C$\x00\x19$\x00\x16$\x00\x13$\x00\x10$\x00\x0D$\x00\x0A$\x00\x07$\x00\x04!\x00\x01\x00",
-    );
+    )?;
     line(
-        b"29 nots round a variable",
+        &rt,
+        "29 nots round a variable",
         b"\x01\x00k\x03\x00\x06\x01\x00\x00\x00\x00r\x04\x00_\x10\x00\x5C\x00$\x00X$\x00U$\x00R$\x00O$\x00L$\x00I$\x00F$\x00C$\x00@$\x00=$\x00:$\x007$\x004$\x001$\x00.$\x00+$\x00($\x00%$\x00\x22$\x00\x1F$\x00\x1C$\x00\x19$\x00\x16$\x00\x13$\x00\x10$\x00\x0D$\x00\x0A$\x00\x07$\x00\x04!\x00\x01\x00",
-    );
-    longest();
+    )?;
+    longest(&rt)
 }

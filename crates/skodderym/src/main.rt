@@ -1,17 +1,32 @@
 // The program: a module from standard input, the netlist or "refused N at P" to standard output.
 #![tactic(auto)]
 
-use libc::{STDIN_FILENO, STDOUT_FILENO};
+ghost use Rattle.std.specs.Prelude.{◌+◌, take, OnOk, IfSome};
+ghost use Rattle.std.specs.Io.KnownBytes.{Appends};
+ghost use Rattle.tagged.specs.Limits.{longest_module};
+ghost use Rattle.response.specs.Text.{program_text};
+
+use buffers::read_full;
 use response::respond;
+use std::io;
+use std::io::{Read, Write};
 use tagged::bytes::front;
 use tagged::limits::ModuleFile;
 use translator::LARGEST_NETLIST;
 
-fn main() {
+// Answers the module that the input holds: reads it, and writes what the program writes for it.
+fn answer<R: Read, W: Write>(input: &mut R, output: &mut W) -> io::Result<()>
+    ensures { OnOk result (IfSome (R.remaining input.old) (λ bytes.
+        Appends (W.contents output.old) (W.contents output.new) (program_text (take (longest_module + 1) bytes)))) }
+{
     // One byte more than the longest module, so that a longer input is seen to be one.
-    let mut input = [0u8; ModuleFile::MAX + 1];
-    let count = io::read_full(STDIN_FILENO, &mut input);
-    let mut output = [0u8; LARGEST_NETLIST];
-    let size = respond(&input[..count], &mut output);
-    io::write_all(STDOUT_FILENO, front(&output, size));
+    let mut file = [0u8; ModuleFile::MAX + 1];
+    let count = read_full(input, &mut file)?;
+    let mut text = [0u8; LARGEST_NETLIST];
+    let size = respond(&file[..count], &mut text);
+    output.write_all(front(&text, size))
+}
+
+fn main(rt: HostRuntime) -> io::Result<()> {
+    answer(&mut rt.stdin(), &mut rt.stdout())
 }
