@@ -15,7 +15,6 @@ use Rattle.tagged.specs.Refusals as refusals
 use Rattle.tagged.specs.Declarations as declarations
 use Rattle.tagged.specs.Declarations.{input, register}
 use Rattle.tagged.specs.declared.sorts.Kind.{Kind}
-use Rattle.tagged.specs.declared.sorts.Kind.TheVariants as Kind
 use Rattle.netlist.specs.Form as netlist_form
 use Rattle.netlist.specs.Reading as netlist_reading
 use Rattle.netlist.specs.Rules as netlist_rules
@@ -30,7 +29,7 @@ use Rattle.verilog.specs.Answer.{tree_answer, module_answer}
 use Rattle.verilog.specs.Cycle as cycle
 use Rattle.translate.specs.Tables as tables
 use Rattle.translate.specs.Translation as translation
-use Rattle.lines.proofs.Lines.{same, accepts, refuses, gives, pair, copy, all}
+use Rattle.lines.proofs.Lines.{accepts, refuses, gives, pair, copy, all}
 
 -- the run of the module and the run of its netlist both give this row
 abbrev both : Module → List ℕ → List ℕ → Bool

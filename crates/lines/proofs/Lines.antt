@@ -18,9 +18,7 @@ use Rattle.tagged.specs.Refusals as refusals
 use Rattle.tagged.specs.Declarations as declarations
 use Rattle.tagged.specs.Declarations.{Declaration, register}
 use Rattle.tagged.specs.declared.answers.Answer.{Answer}
-use Rattle.tagged.specs.declared.answers.Answer.TheVariants as Answer
 use Rattle.tagged.specs.declared.sorts.Kind.{Kind}
-use Rattle.tagged.specs.declared.sorts.Kind.TheVariants as Kind
 use Rattle.netlist.specs.Form as netlist_form
 use Rattle.netlist.specs.Reading as netlist_reading
 use Rattle.netlist.specs.Rules as netlist_rules
