@@ -10,6 +10,7 @@ use denote.Enum.Declared as enums
 use Rattle.tagged.specs.Bytes.{two_bytes}
 use Rattle.tagged.specs.Fields.{field_bytes, all_bytes_of}
 use Rattle.tagged.specs.Declarations.{declaration_bytes}
+use Rattle.netlist.specs.declared.Operand.{Operand}
 use Rattle.netlist.specs.declared.Cell.{Cell}
 use Rattle.netlist.specs.Lists.{Netlist}
 use Rattle.netlist.specs.Form.{operand_bytes, cell_bytes, drive_bytes, netlist_payload}
@@ -18,18 +19,16 @@ use Rattle.netlist.specs.WalkAnswers.{most_listed}
 use Rattle.netlist.proofs.CellBytes.{operand-length}
 use Rattle.netlist.specs.contracts.Cell as cells
 
--- the cells without a bit number or an index, as a match counts them
-abbrev without_bit : List ℕ
-without_bit = 0 ∷ 1 ∷ 2 ∷ []
-
-pub no-bit : (c : Cell) → OneOf without_bit (enums.tag_of cells.the_type c) → false ≡ cell_outside c
+-- the cells without a bit number or an index
+pub no-bit : (c : Cell) → ((w : ℕ) (v : Operand) (n : ℕ) (b : Operand) → c ≡ Cell.Put w v n b → ⊥) →
+    ((w : ℕ) (v : Operand) (n : ℕ) → c ≡ Cell.FixedBit w v n → ⊥) → ((w : ℕ) (v i : Operand) → c ≡ Cell.ChosenBit w v i → ⊥) → false ≡ cell_outside c
 unfolding cell_outside
-no-bit (Cell.One op w a) k = refl
-no-bit (Cell.Two op w a b) k = refl
-no-bit (Cell.Mux w c a b) k = refl
-no-bit (Cell.Put w v n b) k = absurd (miss without_bit 3 tt k)
-no-bit (Cell.FixedBit w v n) k = absurd (miss without_bit 4 tt k)
-no-bit (Cell.ChosenBit w v i) k = absurd (miss without_bit 5 tt k)
+no-bit (Cell.One op w a) put fixed chosen = refl
+no-bit (Cell.Two op w a b) put fixed chosen = refl
+no-bit (Cell.Mux w c a b) put fixed chosen = refl
+no-bit (Cell.Put w v n b) put fixed chosen = absurd (put w v n b refl)
+no-bit (Cell.FixedBit w v n) put fixed chosen = absurd (fixed w v n refl)
+no-bit (Cell.ChosenBit w v i) put fixed chosen = absurd (chosen w v i refl)
 
 -- as many as there are numbers in their list
 pub counted : {A : Type 0} (f : A → ℕ) (items : List A) {l : List ℕ} → map f items ≡ l → length items ≡ length l

@@ -1,4 +1,5 @@
 -- `translator::translate_accepted` meets its contract: the parts and tables that it makes are those of the module, so the passes give its netlist. Assumes nothing.
+use borrow.Author.Rules.{rules}
 use mathlib.Core.Path.{refl, sym}
 use native.Mathlib.Omega.{arith}
 use lib.Seq.{length-take-le}
@@ -15,7 +16,7 @@ pub variable_table-table-requires : goal.variable_table-table-requires
 variable_table-table-requires c = omega (arith, payload-short c.args.file.now c.requires c.from-payload.result.now c.from-payload.ensures)
 
 pub survey-requires : goal.survey-requires
-survey-requires c = omega (arith, list-short c.args.file.now (read-bytes c.args.file.now c.shared_slice_known-1.given) c.requires c.from-payload.result.now c.from-payload.ensures c.declared_bytes-taken.result c.declared_bytes-taken.ensures c.from-list.result.now c.from-list.ensures)
+survey-requires c = omega (arith, list-short c.args.file.now (read-bytes c.args.file.now (search rules)) c.requires c.from-payload.result.now c.from-payload.ensures c.declared_bytes-taken.result c.declared_bytes-taken.ensures c.from-list.result.now c.from-list.ensures)
 
 pub slice_bounds-widths-end : goal.slice_bounds-widths-end
 slice_bounds-widths-end c = widths-room c.args.file.now c.requires _ c.from-payload.ensures c.variable_table-table.result c.variable_table-table.ensures
@@ -30,7 +31,7 @@ pub slice_bounds-measure_and_write-end-2 : goal.slice_bounds-measure_and_write-e
 slice_bounds-measure_and_write-end-2 c = sym (length-take-le _ _ (marks-room c.args.file.now c.requires _ c.from-payload.ensures c.variable_table-table.result c.variable_table-table.ensures))
 
 pub measure_and_write-requires : goal.measure_and_write-requires
-measure_and_write-requires c = (parts-short c.args.file.now (read-bytes c.args.file.now c.shared_slice_known-1.given) c.requires c.from-payload.result.now c.from-payload.ensures c.declared_bytes-taken.result c.declared_bytes-taken.ensures c.from-list.result.now c.from-list.ensures _ c.front.ensures, widths-few c.args.file.now c.requires _ c.from-payload.ensures c.variable_table-table.result c.variable_table-table.ensures, marks-few c.args.file.now c.requires _ c.from-payload.ensures c.variable_table-table.result c.variable_table-table.ensures)
+measure_and_write-requires c = (parts-short c.args.file.now (read-bytes c.args.file.now (search rules)) c.requires c.from-payload.result.now c.from-payload.ensures c.declared_bytes-taken.result c.declared_bytes-taken.ensures c.from-list.result.now c.from-list.ensures _ c.front.ensures, widths-few c.args.file.now c.requires _ c.from-payload.ensures c.variable_table-table.result c.variable_table-table.ensures, marks-few c.args.file.now c.requires _ c.from-payload.ensures c.variable_table-table.result c.variable_table-table.ensures)
 
 pub returns : goal.returns
-returns c = module-passed c.args.file.now (read-bytes c.args.file.now c.shared_slice_known-1.given) c.requires c.from-payload.result.now c.from-payload.ensures c.declared_bytes-taken.result c.declared_bytes-taken.ensures c.from-list.result.now c.from-list.ensures _ c.front.ensures c.variable_table-table.result c.variable_table-table.ensures _ refl (zeros-at 64) _ c.survey.ensures _ c.measure_and_write.ensures
+returns c = module-passed c.args.file.now (read-bytes c.args.file.now (search rules)) c.requires c.from-payload.result.now c.from-payload.ensures c.declared_bytes-taken.result c.declared_bytes-taken.ensures c.from-list.result.now c.from-list.ensures _ c.front.ensures c.variable_table-table.result c.variable_table-table.ensures _ refl (zeros-at 64) _ c.survey.ensures _ c.measure_and_write.ensures

@@ -28,25 +28,22 @@ returns-then-not-begins_cell c =
 pub overflow_add-at : goal.overflow_add-at
 overflow_add-at c =
     let cell = c.cell in
-    let cell-arg = c.cell-arg-1 in
-    omega (arith, past-within cell_body _ _ _ _ _ cell.ensures c.in-Past.is, cell-arg.given)
+    omega (arith, past-within cell_body _ _ _ _ _ cell.ensures c.in-Past.is)
 
 pub loop-at-smaller : goal.loop-at-smaller
 loop-at-smaller c =
     let cell = c.cell in
-    let cell-arg = c.cell-arg-1 in
-    omega (arith, past-within cell_body _ _ _ _ _ cell.ensures c.in-Past.is, cell-arg.given)
+    omega (arith, past-within cell_body _ _ _ _ _ cell.ensures c.in-Past.is)
 
 pub loop-at-preserved : goal.loop-at-preserved
 loop-at-preserved c =
     let cell = c.cell in
-    let cell-arg = c.cell-arg-1 in
     let args = c.args in
     let loop = c.loop-at in
     let loop-test = c.loop-at-test in
     let begins-cell = c.begins_cell in
     let if1 = c.if-not-begins_cell in (
-      omega (arith, past-within cell_body _ _ _ _ _ cell.ensures c.in-Past.is, cell-arg.given),
+      omega (arith, past-within cell_body _ _ _ _ _ cell.ensures c.in-Past.is),
       turn-past is_cell (field_by cell_body) _ _ args.part.now _ loop.invariant.1 loop-test.true
           (ap (λ x. is_cell (sort_of x)) (front args.part.now loop.at) ∙ sym begins-cell.ensures ∙ if1.false) _ cell.ensures _
           c.in-Past.is (past-within cell_body _ _ _ _ _ cell.ensures c.in-Past.is),

@@ -29,7 +29,7 @@ drives_until_end-requires c =
     let args = c.args in
     let small = c.requires in
     let cells = c.cells in
-    omega (arith, cells-within _ _ args.part.now _ _ cells.ensures c.in-Past.is, c.drives_until_end-arg-1.given, small)
+    omega (arith, cells-within _ _ args.part.now _ _ cells.ensures c.in-Past.is, small)
 
 pub returns-in-Past : goal.returns-in-Past
 returns-in-Past c =

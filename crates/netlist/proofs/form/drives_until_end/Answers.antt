@@ -17,24 +17,21 @@ loop-at-init c = (search rules, rw (add-zero, further-zero))
 pub overflow_add-at : goal.overflow_add-at
 overflow_add-at c =
     let drive = c.drive in
-    let part = c.drive-arg-1 in
-    omega (arith, past-within drive_body _ _ _ _ _ drive.ensures c.in-Past.is, part.given)
+    omega (arith, past-within drive_body _ _ _ _ _ drive.ensures c.in-Past.is)
 
 pub loop-at-smaller : goal.loop-at-smaller
 loop-at-smaller c =
     let drive = c.drive in
-    let part = c.drive-arg-1 in
-    omega (arith, past-within drive_body _ _ _ _ _ drive.ensures c.in-Past.is, part.given)
+    omega (arith, past-within drive_body _ _ _ _ _ drive.ensures c.in-Past.is)
 
 pub loop-at-preserved : goal.loop-at-preserved
 loop-at-preserved c =
     let args = c.args in
     let loop = c.loop-at in
     let drive = c.drive in
-    let part = c.drive-arg-1 in
     let test = c.loop-at-test in
     let within = past-within drive_body _ _ _ _ _ drive.ensures c.in-Past.is in (
-      omega (arith, within, part.given),
+      omega (arith, within),
       turn-past any_sort (field_by drive_body) _ _ args.part.now _ loop.invariant.1 test.true refl _ drive.ensures _ c.in-Past.is within,
     )
 

@@ -33,7 +33,7 @@ cells_and_drives-requires c =
     let args = c.args in
     let small = c.requires in
     let declarations = c.declarations in
-    omega (arith, declarations-within _ _ args.payload.now _ _ declarations.ensures c.in-Past.is, c.cells_and_drives-arg-1.given, small)
+    omega (arith, declarations-within _ _ args.payload.now _ _ declarations.ensures c.in-Past.is, small)
 
 pub returns-in-Past : goal.returns-in-Past
 returns-in-Past c =

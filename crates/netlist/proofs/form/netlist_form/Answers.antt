@@ -21,9 +21,8 @@ pub netlist_body-requires : goal.netlist_body-requires
 netlist_body-requires c =
     let args = c.args in
     let small = c.requires in
-    let part = c.netlist_body-arg-1 in
     let open-field = c.open_field in
-    omega (arith, (open-whole _ _ args.file.now (sym open-field.ensures ∙ c.in-Field.is)).within, part.given, small)
+    omega (arith, (open-whole _ _ args.file.now (sym open-field.ensures ∙ c.in-Field.is)).within, small)
 
 pub overflow_add-size-in-Field : goal.overflow_add-size-in-Field
 overflow_add-size-in-Field c =

@@ -21,4 +21,4 @@ returns-in-ChosenBit c =
 pub returns-in_default : goal.returns-in_default
 returns-in_default c =
     let args = c.args in
-    no-bit args.cell c.in_default.in_default-own.keys4
+    no-bit args.cell c.in_default.not-Put c.in_default.not-FixedBit c.in_default.not-ChosenBit

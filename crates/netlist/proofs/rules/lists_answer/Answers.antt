@@ -1,4 +1,5 @@
 -- `netlist::rules::lists_answer` meets its contract: the lower of what the declarations and what the rest is refused for. Assumes nothing.
+use borrow.Author.Rules.{rules}
 use native.Mathlib.Omega.{arith}
 use Rattle.tagged.proofs.AllBytesLaws.{read-bytes}
 use Rattle.netlist.specs.Reading.{netlist_in}
@@ -12,17 +13,16 @@ declarations_answer-answer-requires c =
     let pre = c.requires in
     omega (
       arith,
-      payload-long args.file.now (read-bytes args.file.now c.shared_slice_known-1.given) pre.0 pre.1 c.from.result.now
+      payload-long args.file.now (read-bytes args.file.now (search rules)) pre.0 pre.1 c.from.result.now
           c.from.ensures,
     )
 
 pub returns : goal.returns
 returns c =
     let args = c.args in
-    let shared-slice-known = c.shared_slice_known-1 in
     let pre = c.requires in
     let from = c.from in
     let declarations-answer = c.declarations_answer-answer in
     lists-joined 3 (netlist_in args.file.now)
-    (declared-placed args.file.now (read-bytes args.file.now shared-slice-known.given) pre.0 pre.1 from.result.now from.ensures
+    (declared-placed args.file.now (read-bytes args.file.now (search rules)) pre.0 pre.1 from.result.now from.ensures
     declarations-answer.ensures) c.rest_answer.ensures c.or_lower.ensures

@@ -17,37 +17,34 @@ variable_table-table-requires c =
     let pre = c.requires in
     omega (
       arith,
-      payload-long args.file.now (read-bytes args.file.now c.shared_slice_known-1.given) pre.0 pre.1 c.from-payload.result.now
+      payload-long args.file.now (read-bytes args.file.now (search rules)) pre.0 pre.1 c.from-payload.result.now
           c.from-payload.ensures,
     )
 
 pub register_numbers-registers-requires : goal.register_numbers-registers-requires
 register_numbers-registers-requires c =
     let args = c.args in
-    let shared-slice-known = c.shared_slice_known-1 in
     let pre = c.requires in
     let from = c.from-payload in
     let variable-table = c.variable_table-table in
-    first-few args.file.now (read-bytes args.file.now shared-slice-known.given) pre.0 pre.1 from.result.now from.ensures
+    first-few args.file.now (read-bytes args.file.now (search rules)) pre.0 pre.1 from.result.now from.ensures
     variable-table.ensures c.front.ensures
 
 pub declared_bytes-bytes-requires : goal.declared_bytes-bytes-requires
 declared_bytes-bytes-requires c =
     let args = c.args in
-    let shared-slice-known = c.shared_slice_known-1 in
     let pre = c.requires in
     let from = c.from-payload in
-    omega (arith, payload-long args.file.now (read-bytes args.file.now shared-slice-known.given) pre.0 pre.1 from.result.now from.ensures)
+    omega (arith, payload-long args.file.now (read-bytes args.file.now (search rules)) pre.0 pre.1 from.result.now from.ensures)
 
 pub overflow_add-bytes : goal.overflow_add-bytes
 overflow_add-bytes c =
     let args = c.args in
-    let shared-slice-known = c.shared_slice_known-1 in
     let pre = c.requires in
     let from = c.from-payload in
     omega (
       arith,
-      taken-few args.file.now (read-bytes args.file.now shared-slice-known.given) pre.0 pre.1 from.result.now from.ensures
+      taken-few args.file.now (read-bytes args.file.now (search rules)) pre.0 pre.1 from.result.now from.ensures
           c.declared_bytes-bytes.result c.declared_bytes-bytes.ensures c.from-cells.result.now c.from-cells.ensures,
     )
 
@@ -66,18 +63,16 @@ slice_bounds-cells_answer-end c =
 pub cells_answer-requires : goal.cells_answer-requires
 cells_answer-requires c =
     let args = c.args in
-    let shared-slice-known = c.shared_slice_known-1 in
     let pre = c.requires in
     let from = c.from-payload in
     let declared-bytes = c.declared_bytes-bytes in
     let from2 = c.from-cells in
-    after-asked args.file.now (read-bytes args.file.now shared-slice-known.given) pre.0 pre.1 from.result.now from.ensures
+    after-asked args.file.now (read-bytes args.file.now (search rules)) pre.0 pre.1 from.result.now from.ensures
     declared-bytes.result declared-bytes.ensures from2.result.now from2.ensures
 
 pub returns : goal.returns
 returns c =
     let args = c.args in
-    let shared-slice-known = c.shared_slice_known-1 in
     let pre = c.requires in
     let from = c.from-payload in
     let declared-bytes = c.declared_bytes-bytes in
@@ -87,12 +82,12 @@ returns c =
     let front = c.front in
     let register-numbers = c.register_numbers-registers in
     let ds = take most_variables (netlist_in args.file.now).declarations in
-    rest-placed args.file.now (read-bytes args.file.now shared-slice-known.given) pre.0 pre.1 from.result.now from.ensures
+    rest-placed args.file.now (read-bytes args.file.now (search rules)) pre.0 pre.1 from.result.now from.ensures
     declared-bytes.result declared-bytes.ensures from2.result.now from2.ensures ds
     (c.cells_answer.ensures (declaring ds (netlist_in args.file.now))
-    (first-known args.file.now (read-bytes args.file.now shared-slice-known.given) pre.0 pre.1 from.result.now from.ensures
+    (first-known args.file.now (read-bytes args.file.now (search rules)) pre.0 pre.1 from.result.now from.ensures
     variable-table.ensures front2.ensures front.ensures register-numbers.ensures.1)
-    (netlist-cells args.file.now (read-bytes args.file.now shared-slice-known.given) pre.0 pre.1 from.result.now from.ensures
+    (netlist-cells args.file.now (read-bytes args.file.now (search rules)) pre.0 pre.1 from.result.now from.ensures
     declared-bytes.result declared-bytes.ensures from2.result.now from2.ensures)
-    (netlist-drives args.file.now (read-bytes args.file.now shared-slice-known.given) pre.0 pre.1 from.result.now from.ensures
+    (netlist-drives args.file.now (read-bytes args.file.now (search rules)) pre.0 pre.1 from.result.now from.ensures
     declared-bytes.result declared-bytes.ensures from2.result.now from2.ensures))

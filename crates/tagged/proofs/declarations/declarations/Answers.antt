@@ -28,25 +28,22 @@ returns-then-not-begins_declaration c =
 pub overflow_add-at : goal.overflow_add-at
 overflow_add-at c =
     let declaration = c.declaration in
-    let declaration-arg = c.declaration-arg-1 in
-    omega (arith, past-within declaration_body _ _ _ _ _ declaration.ensures c.in-Past.is, declaration-arg.given)
+    omega (arith, past-within declaration_body _ _ _ _ _ declaration.ensures c.in-Past.is)
 
 pub loop-at-smaller : goal.loop-at-smaller
 loop-at-smaller c =
     let declaration = c.declaration in
-    let declaration-arg = c.declaration-arg-1 in
-    omega (arith, past-within declaration_body _ _ _ _ _ declaration.ensures c.in-Past.is, declaration-arg.given)
+    omega (arith, past-within declaration_body _ _ _ _ _ declaration.ensures c.in-Past.is)
 
 pub loop-at-preserved : goal.loop-at-preserved
 loop-at-preserved c =
     let declaration = c.declaration in
-    let declaration-arg = c.declaration-arg-1 in
     let args = c.args in
     let loop = c.loop-at in
     let loop-test = c.loop-at-test in
     let begins-declaration = c.begins_declaration in
     let if1 = c.if-not-begins_declaration in (
-      omega (arith, past-within declaration_body _ _ _ _ _ declaration.ensures c.in-Past.is, declaration-arg.given),
+      omega (arith, past-within declaration_body _ _ _ _ _ declaration.ensures c.in-Past.is),
       turn-past is_declaration (field_by declaration_body) _ _ args.part.now _ loop.invariant.1 loop-test.true
           (ap (λ x. is_declaration (sort_of x)) (front args.part.now loop.at) ∙ sym begins-declaration.ensures ∙ if1.false) _ declaration.ensures _
           c.in-Past.is (past-within declaration_body _ _ _ _ _ declaration.ensures c.in-Past.is),

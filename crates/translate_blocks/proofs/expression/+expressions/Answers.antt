@@ -10,7 +10,6 @@ use Rattle.verilog.specs.Reading.{expression_in}
 use Rattle.translate_blocks.specs.Words.{unpacked}
 use Rattle.translate_blocks.proofs.expression.+expressions.Goals as goal
 
---
 pub expression-returns-then-depth-eq0 : goal.expression-returns-then-depth-eq0
 expression-returns-then-depth-eq0 t c =
     let none = no-level _ c.if-depth-eq0.true _ in
@@ -29,8 +28,7 @@ expression-slice_bounds-expression_by-end t c =
 pub expression-expression_by-requires : goal.expression-expression_by-requires
 expression-expression_by-requires t c =
     let opened = c.open_field.ensures in
-    let payload = c.expression_by-arg-1.given in
-    omega (arith, (open-whole _ _ _ (sym opened ∙ c.in-Field.is)).within, payload)
+    omega (arith, (open-whole _ _ _ (sym opened ∙ c.in-Field.is)).within)
 
 pub expression-returns-in-Expression : goal.expression-returns-in-Expression
 expression-returns-in-Expression t c =
@@ -52,7 +50,6 @@ expression-returns-in-Refused t c =
     let opened = c.open_field.ensures in
     nothing-emitted _ _ (read_none _ some _ _ opened _ c.in-Refused.is) nothing
 
---
 pub expression_by-expression-index-requires : goal.expression_by-expression-index-requires
 expression_by-expression-index-requires t c =
     let payload = c.args.payload.now in

