@@ -1,9 +1,8 @@
 // The program: a module from standard input, the netlist or "refused N at P" to standard output.
 #![tactic(auto)]
 
-ghost use Rattle.std.specs.Prelude.{◌+◌, take, OnOk, IfSome};
+ghost use Rattle.std.specs.Prelude.{OnOk, IfSome};
 ghost use Rattle.std.specs.Io.KnownBytes.{Appends};
-ghost use Rattle.tagged.specs.Limits.{longest_module};
 ghost use Rattle.response.specs.Text.{program_text};
 
 use buffers::read_full;
@@ -14,10 +13,10 @@ use tagged::bytes::front;
 use tagged::limits::ModuleFile;
 use translator::LARGEST_NETLIST;
 
-// Answers the module that the input holds: reads it, and writes what the program writes for it.
+// Answers the module that the input holds: writes the program's text for all that the input has, however long it is.
 fn answer<R: Read, W: Write>(input: &mut R, output: &mut W) -> io::Result<()>
     ensures { OnOk result (IfSome (R.remaining input.old) (λ bytes.
-        Appends (W.contents output.old) (W.contents output.new) (program_text (take (longest_module + 1) bytes)))) }
+        Appends (W.contents output.old) (W.contents output.new) (program_text bytes))) }
 {
     // One byte more than the longest module, so that a longer input is seen to be one.
     let mut file = [0u8; ModuleFile::MAX + 1];

@@ -1,0 +1,2 @@
+-- From the front of the input to all of it.
+mod AllInput
