@@ -10,6 +10,7 @@ use tagged::fields::{Judged, Opened, Step, at_end, open_field, passed};
 use tagged::sorts::{CellSort, Sort, sort_of};
 
 // Does an operand stand at the front of a part: a kind, and six bytes?
+#[tactic(auto, using(std::proofs::lemmas::Bool::Decides::nat_tests))]
 fn operand_stands(part: &[u8]) -> bool
     ensures { result ≡ leb (get_or part.now 0 0) 2 && leb 6 (length part.now) }
 {

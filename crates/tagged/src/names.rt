@@ -16,6 +16,7 @@ fn is_digit(byte: u8) -> bool
 }
 
 // A letter, a digit or an underscore.
+#[tactic(auto, using(std::proofs::lemmas::Bool::Decides::nat_tests), unfolding(crate::specs::Names::is_name_byte))]
 fn is_name_byte(byte: u8) -> bool
     ensures { result ≡ is_name_byte byte }
 {
