@@ -1,12 +1,18 @@
 #!/usr/bin/env python3
-"""Respells this repository's own names in camel case: `declarationsIn` becomes `declarations_in`.
+"""Respells this repository's own names: `declarationsIn` becomes `declarations_in`, and `first-least` becomes `first_least`.
 
 usage: python3 tools/respell.py [--look] [FOLDER]
 
-Run once, after port.py, at the top of the repository. It turns each word in camel case that begins with a small letter, in the .rt and
-.antt files of crates/ and in must-fail edits, in comments too, and leaves strings alone. No library of Rattle's has such a word, so each is
-our own. LEMMAS has the lemmas that would fall together with a definition. --look lists where the new
-spelling of a word already stands in the same file, and writes nothing.
+Run once, after port.py, at the top of the repository. It turns
+
+- each word in camel case that begins with a small letter, in the .rt and .antt files of crates/ and in must-fail edits, in comments too,
+  and leaves strings alone. No library of Rattle's has such a word, so each is our own;
+- each name of names.txt, beside this file, in .antt files: a line has the old name, the new one, and `field` for a field or a
+  constructor. A dash stays in a lemma's name only where it joins two names that stand in its statement, as in `bit-inverted`;
+- names of modules, as in `use .. as open-field-reads`.
+
+LEMMAS, and `_lem` in names.txt, are for lemmas that would fall together with another name. --look lists where the new spelling of a word
+in camel case already stands in the same file, and writes nothing.
 """
 
 import os
@@ -14,6 +20,7 @@ import re
 import sys
 
 WORD = re.compile(r"(?<![A-Za-z0-9_])[a-z][a-z0-9]*(?:[A-Z][a-z0-9]*)+(?![A-Za-z0-9_])")
+TOKEN = re.compile(r"[^\s(){}.;,@\"«»\[\]\\]+")
 STRING = re.compile(r'b?"(?:[^"\\\n]|\\.)*"|\'[^\'\s]\'')
 
 # Lemmas, by the file of proofs/ that has them, whose names a definition takes in its new spelling: each gets `_lem` after it.
@@ -60,6 +67,35 @@ def turned(text):
     return "".join(out)
 
 
+def table():
+    with open(os.path.join(os.path.dirname(os.path.realpath(__file__)), "names.txt"), encoding="utf-8") as f:
+        rows = [line.split() for line in f]
+    return {r[0]: r[1] for r in rows}, {r[0] for r in rows if len(r) > 2}
+
+
+def dashes(text, names, fields):
+    """Each name of the table; after a dot only fields, and a theorem after the name of its module. What a let binds keeps its name."""
+    own = set(re.findall(r"\blet ([^\s:]+)", text)) - fields
+    own -= set(re.findall(r"[^\s{},]+", " ".join(re.findall(r"(?m)^use [^{\n]*\{([^}]*)\}", text))))
+    out, at = [], 0
+    for m in TOKEN.finditer(text):
+        word = m.group()
+        if word not in names or word in own:
+            continue
+        before = text[at : m.start()]
+        if m.start() and text[m.start() - 1] == "." and word not in fields and not text[: m.start()].endswith("definitions."):
+            continue
+        out.append(before + names[word])
+        at = m.end()
+    return "".join(out) + text[at:]
+
+
+def modules(text):
+    for name in set(re.findall(r"(?m)^(?:ghost )?use [^{\n]* as ([a-z_]+(?:-[a-z_]+)+);?$", text)):
+        text = re.sub(r"(?<![\w.-])" + name + r"(?![\w-])", name.replace("-", "_"), text)
+    return text
+
+
 def files(root):
     for folder, dirs, names in os.walk(os.path.join(root, "crates")):
         dirs[:] = sorted(d for d in dirs if d != "out")
@@ -81,13 +117,18 @@ def main(argv):
     looking = "--look" in argv
     rest = [a for a in argv if a != "--look"]
     root = rest[0] if rest else "."
+    names, fields = table()
+    # where no word is in camel case any more, the lemmas of LEMMAS have their new names
+    first = any(WORD.search(STRING.sub("", open(p, encoding="utf-8").read())) for p in files(root) if p.endswith(".antt"))
     for path in files(root):
         with open(path, encoding="utf-8") as f:
             text = f.read()
         if looking:
             look(path, text)
             continue
-        new = turned(lemmas_renamed(path, text) if path.endswith(".antt") else text)
+        new = turned(lemmas_renamed(path, text) if first and path.endswith(".antt") else text)
+        if not path.endswith(".edit"):
+            new = modules(dashes(new, names, fields) if path.endswith(".antt") else new)
         if new != text:
             with open(path, "w", encoding="utf-8") as f:
                 f.write(new)

@@ -6,8 +6,10 @@ ghost use Rattle.std.specs.Prelude.{◌≡◌, ◌≤◌, length, take, IfOk, If
 use std::io;
 use std::io::Read;
 
-// Reads until the buffer is full or the input ends; how many bytes it put at the front. The first read that fails is the error.
+// Reads until the buffer is full or the input ends; how many bytes it put at the front. The first read that fails is the error, and leaves a
+// buffer of the same length.
 pub fn read_full<R: Read>(input: &mut R, buffer: &mut [u8]) -> io::Result<usize>
+    ensures kept { length buffer.new ≡ length buffer.old }
     ensures within { IfOk result (λ count. count ≤ length buffer.new) }
     ensures bytes { IfOk result (λ count. IfSome (R.remaining input.old)
         (λ bytes. take count buffer.new ≡ take (length buffer.old) bytes)) }

@@ -16,9 +16,9 @@ use Rattle.tagged.specs.Rows as rows
 use Rattle.tagged.specs.Runs as runs
 use Rattle.tagged.specs.Declarations as declarations
 use Rattle.tagged.proofs.Cases.{answering}
-use Rattle.netlist.specs.Form as netlist-form
-use Rattle.netlist.specs.Reading as netlist-reading
-use Rattle.netlist.specs.Rules as netlist-rules
+use Rattle.netlist.specs.Form as netlist_form
+use Rattle.netlist.specs.Reading as netlist_reading
+use Rattle.netlist.specs.Rules as netlist_rules
 use Rattle.netlist.specs.Answer.{lists_answer, netlist_answer}
 use Rattle.verilog.specs.Form as form
 use Rattle.verilog.specs.Reading as reading
@@ -117,5 +117,5 @@ table =
     ∷ []
 
 pub explained : passes table ≡ true
-unfolding table module_answer tree_answer number_of refusals.first_broken refusals.first_refusal files.file_answer files.outer_answer fields.open_of fields.field_by fields.then_by fields.fixed_then fields.ended fields.many_from fields.read_from fields.field_bytes fields.all_bytes_of bytes.number_of_two bytes.number_of_four bytes.four_of bytes.two_bytes bytes.four_bytes sorts.sort_of sorts.tag_of sorts.declaration_sort sorts.statement_sort sorts.expression_sort sorts.cell_sort names.is_name names.is_name_byte names.all_name_bytes names.same_name declarations.declaration_bytes declarations.declaration_body declarations.declarations_step declarations.declaration_read declarations.declarations_at declarations.value_broken declarations.name_taken declarations.name_broken declarations.count_broken form.module_form form.expression_body form.statement_body form.block_body form.item_body form.constant_body form.expression_bytes form.statement_bytes form.block_payload form.items_bytes form.process_bytes reading.tree_in reading.expression_in reading.statement_in reading.block_in reading.item_in nodes.expression_nodes nodes.statement_nodes nodes.block_nodes nodes.items_nodes nodes.process_nodes nodes.declaration_nodes nodes.module_nodes rules.expression_width rules.breaks rules.module_broken operators.two_width operators.one_width run_answer netlist_answer lists_answer fields.placed_by declarations.declaration_breaks rows.row_numbers rows.all_fit rows.rows_fit rows.row_answer runs.run_answer_of netlist-form.operand_bytes netlist-form.cell_bytes netlist-form.drive_bytes netlist-form.netlist_payload netlist-form.netlist_bytes netlist-form.slots_by netlist-form.cell_body netlist-form.drive_body netlist-form.cells_step netlist-form.drives_judge netlist-form.netlist_body netlist-form.netlist_form netlist-reading.operand_in netlist-reading.cell_read netlist-reading.drive_read netlist-reading.cells_at netlist-reading.drives_at netlist-reading.lists_in netlist-rules.operand_value_broken netlist-rules.operand_missing netlist-rules.operand_unlike netlist-rules.cell_unlike netlist-rules.cell_outside netlist-rules.cell_breaks netlist-rules.registers_from netlist-rules.not_next netlist-rules.drive_breaks netlist-rules.whole_broken netlist-rules.netlist_broken
+unfolding table module_answer tree_answer number_of refusals.first_broken refusals.first_refusal files.file_answer files.outer_answer fields.open_of fields.field_by fields.then_by fields.fixed_then fields.ended fields.many_from fields.read_from fields.field_bytes fields.all_bytes_of bytes.number_of_two bytes.number_of_four bytes.four_of bytes.two_bytes bytes.four_bytes sorts.sort_of sorts.tag_of sorts.declaration_sort sorts.statement_sort sorts.expression_sort sorts.cell_sort names.is_name names.is_name_byte names.all_name_bytes names.same_name declarations.declaration_bytes declarations.declaration_body declarations.declarations_step declarations.declaration_read declarations.declarations_at declarations.value_broken declarations.name_taken declarations.name_broken declarations.count_broken form.module_form form.expression_body form.statement_body form.block_body form.item_body form.constant_body form.expression_bytes form.statement_bytes form.block_payload form.items_bytes form.process_bytes reading.tree_in reading.expression_in reading.statement_in reading.block_in reading.item_in nodes.expression_nodes nodes.statement_nodes nodes.block_nodes nodes.items_nodes nodes.process_nodes nodes.declaration_nodes nodes.module_nodes rules.expression_width rules.breaks rules.module_broken operators.two_width operators.one_width run_answer netlist_answer lists_answer fields.placed_by declarations.declaration_breaks rows.row_numbers rows.all_fit rows.rows_fit rows.row_answer runs.run_answer_of netlist_form.operand_bytes netlist_form.cell_bytes netlist_form.drive_bytes netlist_form.netlist_payload netlist_form.netlist_bytes netlist_form.slots_by netlist_form.cell_body netlist_form.drive_body netlist_form.cells_step netlist_form.drives_judge netlist_form.netlist_body netlist_form.netlist_form netlist_reading.operand_in netlist_reading.cell_read netlist_reading.drive_read netlist_reading.cells_at netlist_reading.drives_at netlist_reading.lists_in netlist_rules.operand_value_broken netlist_rules.operand_missing netlist_rules.operand_unlike netlist_rules.cell_unlike netlist_rules.cell_outside netlist_rules.cell_breaks netlist_rules.registers_from netlist_rules.not_next netlist_rules.drive_breaks netlist_rules.whole_broken netlist_rules.netlist_broken
 explained = refl

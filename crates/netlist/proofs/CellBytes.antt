@@ -16,13 +16,13 @@ use Rattle.tagged.specs.Fields.{field_bytes, all_bytes_of, fixed_then, ended}
 use Rattle.tagged.specs.declared.sorts.CellSort.{CellSort}
 use Rattle.tagged.specs.declared.sorts.Sort.{Sort}
 use Rattle.tagged.specs.declared.fields.Judged.{Judged}
-use Rattle.tagged.proofs.ByteLaws.{front, bytes-four, four-front, four-lt, bytes_drop}
-use Rattle.tagged.proofs.SortLaws.{is-itself}
-use Rattle.tagged.proofs.AllBytesLaws.{bytes-none, bytes-cons, four_bytes_lem, field-bytes, all-bytes}
-use Rattle.tagged.proofs.JudgeLaws.{fixed-tells, ended-tells, sort-fine, fixed-written}
-use Rattle.tagged.proofs.RunLaws.{Known, sort-known}
-use Rattle.tagged.proofs.AnyPlace.{AnywhereBody, AnywhereJudge, fixed-anywhere, ended-anywhere}
-use Rattle.tagged.proofs.ListBytes.{Stands, field-length}
+use Rattle.tagged.proofs.ByteLaws.{front, bytes_four, four_front, four_lt, bytes_drop}
+use Rattle.tagged.proofs.SortLaws.{is_itself}
+use Rattle.tagged.proofs.AllBytesLaws.{bytes_none, bytes_cons, four_bytes_lem, field_bytes_lem, all_bytes}
+use Rattle.tagged.proofs.JudgeLaws.{fixed_tells, ended_tells, sort_fine, fixed_written}
+use Rattle.tagged.proofs.RunLaws.{Known, sort_known}
+use Rattle.tagged.proofs.AnyPlace.{AnywhereBody, AnywhereJudge, fixed_anywhere, ended_anywhere}
+use Rattle.tagged.proofs.ListBytes.{Stands, field_length}
 use Rattle.netlist.specs.declared.Operand.{Operand}
 use Rattle.netlist.specs.declared.Cell.{Cell}
 use Rattle.netlist.specs.declared.Drive.{Drive}
@@ -30,33 +30,33 @@ use Rattle.netlist.specs.Lists.{Slot, operand, byte, cell_sort_of, cell_width, c
 use Rattle.netlist.specs.Form.{operand_bytes, slot_bytes, cell_bytes, drive_bytes, Shape, an_operand, a_byte, shape_of, slots_by, cell_body, drive_body}
 use Rattle.netlist.specs.Reading.{operand_of, operand_in, cell_in, cell_read, drive_read}
 use Rattle.netlist.specs.Fits.{Every, FitsByte, FitsFour, operand_number, FitsOperand, FitsSlot, FitsCell, FitsDrive}
-use Rattle.netlist.proofs.EveryLaws.{every-member}
+use Rattle.netlist.proofs.EveryLaws.{every_member}
 
 -- operands
 
 -- an operand whose number fits is read back, whatever follows
-pub operand-front : (o : Operand) (after : List ℕ) → FitsFour (operand_number o) → operand_in (operand_bytes o ++ after) ≡ o
+pub operand_front : (o : Operand) (after : List ℕ) → FitsFour (operand_number o) → operand_in (operand_bytes o ++ after) ≡ o
 unfolding operand_in operand_bytes
-operand-front (Operand.Constant w n) after h = ap (Operand.Constant w) (four-front n after h)
-operand-front (Operand.Variable w n) after h = ap (Operand.Variable w) (four-front n after h)
-operand-front (Operand.Cell w n) after h = ap (Operand.Cell w) (four-front n after h)
+operand_front (Operand.Constant w n) after h = ap (Operand.Constant w) (four_front n after h)
+operand_front (Operand.Variable w n) after h = ap (Operand.Variable w) (four_front n after h)
+operand_front (Operand.Cell w n) after h = ap (Operand.Cell w) (four_front n after h)
 
-pub operand-length : (o : Operand) → length (operand_bytes o) ≡ 6
+pub operand_length : (o : Operand) → length (operand_bytes o) ≡ 6
 unfolding operand_bytes four_bytes
-operand-length (Operand.Constant w n) = refl
-operand-length (Operand.Variable w n) = refl
-operand-length (Operand.Cell w n) = refl
+operand_length (Operand.Constant w n) = refl
+operand_length (Operand.Variable w n) = refl
+operand_length (Operand.Cell w n) = refl
 
-pub operand-kind : (o : Operand) (after : List ℕ) → leb (get_or (operand_bytes o ++ after) 0 0) 2 ≡ true
+pub operand_kind : (o : Operand) (after : List ℕ) → leb (get_or (operand_bytes o ++ after) 0 0) 2 ≡ true
 unfolding operand_bytes
-operand-kind (Operand.Constant w n) after = refl
-operand-kind (Operand.Variable w n) after = refl
-operand-kind (Operand.Cell w n) after = refl
+operand_kind (Operand.Constant w n) after = refl
+operand_kind (Operand.Variable w n) after = refl
+operand_kind (Operand.Cell w n) after = refl
 
 -- six bytes that begin with a kind are the bytes of the operand in them
-kind-back : (kind w n : ℕ) → kind ≤ 2 → operand_bytes (operand_of kind w n) ≡ kind ∷ w ∷ four_bytes n
+kind_back : (kind w n : ℕ) → kind ≤ 2 → operand_bytes (operand_of kind w n) ≡ kind ∷ w ∷ four_bytes n
 unfolding operand_bytes
-kind-back kind w n h = go (eqb kind 0) refl (eqb kind 1) refl
+kind_back kind w n h = go (eqb kind 0) refl (eqb kind 1) refl
   where
     go : (a : Bool) → eqb kind 0 ≡ a → (b : Bool) → eqb kind 1 ≡ b
         → operand_bytes (cond a (Operand.Constant w n) (cond b (Operand.Variable w n) (Operand.Cell w n))) ≡ kind ∷ w ∷ four_bytes n
@@ -64,16 +64,16 @@ kind-back kind w n h = go (eqb kind 0) refl (eqb kind 1) refl
     go false p true q = ap (λ (k : ℕ). k ∷ w ∷ four_bytes n) (sym (eqb-true kind 1 q))
     go false p false q = ap (λ (k : ℕ). k ∷ w ∷ four_bytes n) (let n0 = eqb-false kind 0 p in let n1 = eqb-false kind 1 q in omega arith)
 
-pub operand-back : (l : List ℕ) → AllBytes l → 6 ≤ length l → get_or l 0 0 ≤ 2 → operand_bytes (operand_in l) ≡ take 6 l
+pub operand_back : (l : List ℕ) → AllBytes l → 6 ≤ length l → get_or l 0 0 ≤ 2 → operand_bytes (operand_in l) ≡ take 6 l
 unfolding operand_in four_of
-operand-back [] h long k = absurd (omega arith)
-operand-back (a ∷ []) h long k = absurd (omega arith)
-operand-back (a ∷ b ∷ []) h long k = absurd (omega arith)
-operand-back (a ∷ b ∷ c ∷ []) h long k = absurd (omega arith)
-operand-back (a ∷ b ∷ c ∷ d ∷ []) h long k = absurd (omega arith)
-operand-back (a ∷ b ∷ c ∷ d ∷ e ∷ []) h long k = absurd (omega arith)
-operand-back (kind ∷ w ∷ a ∷ b ∷ c ∷ d ∷ l) h long k =
-    kind-back kind w (four_of (a ∷ b ∷ c ∷ d ∷ l)) k ∙ ap (λ (n : List ℕ). kind ∷ w ∷ n) (bytes-four a b c d (h 2) (h 3) (h 4) (h 5))
+operand_back [] h long k = absurd (omega arith)
+operand_back (a ∷ []) h long k = absurd (omega arith)
+operand_back (a ∷ b ∷ []) h long k = absurd (omega arith)
+operand_back (a ∷ b ∷ c ∷ []) h long k = absurd (omega arith)
+operand_back (a ∷ b ∷ c ∷ d ∷ []) h long k = absurd (omega arith)
+operand_back (a ∷ b ∷ c ∷ d ∷ e ∷ []) h long k = absurd (omega arith)
+operand_back (kind ∷ w ∷ a ∷ b ∷ c ∷ d ∷ l) h long k =
+    kind_back kind w (four_of (a ∷ b ∷ c ∷ d ∷ l)) k ∙ ap (λ (n : List ℕ). kind ∷ w ∷ n) (bytes_four a b c d (h 2) (h 3) (h 4) (h 5))
 
 -- an operand in bytes fits them
 kind_fits : (kind w n : ℕ) → FitsByte w → FitsFour n → FitsOperand (operand_of kind w n)
@@ -84,18 +84,18 @@ kind_fits kind w n h k = go (eqb kind 0) (eqb kind 1)
     go false true = (h, k)
     go false false = (h, k)
 
-pub operand-fits : (l : List ℕ) → AllBytes l → FitsOperand (operand_in l)
+pub operand_fits : (l : List ℕ) → AllBytes l → FitsOperand (operand_in l)
 unfolding operand_in four_of
-operand-fits l h =
+operand_fits l h =
     let rest = bytes_drop 2 l h in
     kind_fits (get_or l 0 0) (get_or l 1 0) (four_of (drop 2 l)) (h 1)
-    (four-lt (get_or (drop 2 l) 0 0) (get_or (drop 2 l) 1 0) (get_or (drop 2 l) 2 0) (get_or (drop 2 l) 3 0) (rest 0) (rest 1) (rest 2) (rest 3))
+    (four_lt (get_or (drop 2 l) 0 0) (get_or (drop 2 l) 1 0) (get_or (drop 2 l) 2 0) (get_or (drop 2 l) 3 0) (rest 0) (rest 1) (rest 2) (rest 3))
 
-pub operand-bytes : (o : Operand) → FitsOperand o → AllBytes (operand_bytes o)
+pub operand_bytes_lem : (o : Operand) → FitsOperand o → AllBytes (operand_bytes o)
 unfolding operand_bytes
-operand-bytes (Operand.Constant w n) h = bytes-cons 0 (w ∷ four_bytes n) (lit< tt) (bytes-cons w (four_bytes n) h.0 (four_bytes_lem n))
-operand-bytes (Operand.Variable w n) h = bytes-cons 1 (w ∷ four_bytes n) (lit< tt) (bytes-cons w (four_bytes n) h.0 (four_bytes_lem n))
-operand-bytes (Operand.Cell w n) h = bytes-cons 2 (w ∷ four_bytes n) (lit< tt) (bytes-cons w (four_bytes n) h.0 (four_bytes_lem n))
+operand_bytes_lem (Operand.Constant w n) h = bytes_cons 0 (w ∷ four_bytes n) (lit< tt) (bytes_cons w (four_bytes n) h.0 (four_bytes_lem n))
+operand_bytes_lem (Operand.Variable w n) h = bytes_cons 1 (w ∷ four_bytes n) (lit< tt) (bytes_cons w (four_bytes n) h.0 (four_bytes_lem n))
+operand_bytes_lem (Operand.Cell w n) h = bytes_cons 2 (w ∷ four_bytes n) (lit< tt) (bytes_cons w (four_bytes n) h.0 (four_bytes_lem n))
 
 -- slots
 
@@ -111,80 +111,80 @@ slots_in (an_operand ∷ s) l = operand (operand_in l) ∷ slots_in s (drop 6 l)
 slots_in (a_byte ∷ s) l = byte (get_or l 0 0) ∷ slots_in s (drop 1 l)
 
 -- nothing is left where a payload has ended
-ended-empty : (base owner : ℕ) (l : List ℕ) → ended base owner l ≡ Judged.Fine → [] ≡ l
-ended-empty base owner [] e = refl
-ended-empty base owner (x ∷ l) e = absurd (omega (arith, ended-tells base owner (x ∷ l) e))
+ended_empty : (base owner : ℕ) (l : List ℕ) → ended base owner l ≡ Judged.Fine → [] ≡ l
+ended_empty base owner [] e = refl
+ended_empty base owner (x ∷ l) e = absurd (omega (arith, ended_tells base owner (x ∷ l) e))
 
 -- the first of these slots is an operand: its kind is one, and the others follow
-operand-fine : (s : List Shape) (base owner : ℕ) (l : List ℕ) → slots_by (an_operand ∷ s) base owner l ≡ Judged.Fine
+operand_fine : (s : List Shape) (base owner : ℕ) (l : List ℕ) → slots_by (an_operand ∷ s) base owner l ≡ Judged.Fine
     → (get_or l 0 0 ≤ 2) × (6 ≤ length l) × (slots_by s (base + 6) owner (drop 6 l) ≡ Judged.Fine)
 unfolding slots_by
-operand-fine s base owner l e = go (leb (get_or l 0 0) 2) refl e
+operand_fine s base owner l e = go (leb (get_or l 0 0) 2) refl e
   where
     go : (t : Bool) → leb (get_or l 0 0) 2 ≡ t → cond t (fixed_then 6 (slots_by s) base owner l) (Judged.Refused owner) ≡ Judged.Fine
         → (get_or l 0 0 ≤ 2) × (6 ≤ length l) × (slots_by s (base + 6) owner (drop 6 l) ≡ Judged.Fine)
-    go true p q = let f = fixed-tells 6 (slots_by s) base owner l q in (leb-true (get_or l 0 0) 2 p, f.0, f.1)
+    go true p q = let f = fixed_tells 6 (slots_by s) base owner l q in (leb-true (get_or l 0 0) 2 p, f.0, f.1)
     go false p q = absurd (let z : ◌≡◌ {A = ℕ} 0 1 = cc in omega arith)
 
 -- slots read without a fault are written as they stood
-slots-written : (s : List Shape) (base owner : ℕ) (l : List ℕ) → AllBytes l → slots_by s base owner l ≡ Judged.Fine → all_bytes_of slot_bytes (slots_in s l) ≡ l
+slots_written : (s : List Shape) (base owner : ℕ) (l : List ℕ) → AllBytes l → slots_by s base owner l ≡ Judged.Fine → all_bytes_of slot_bytes (slots_in s l) ≡ l
 unfolding slots_by all_bytes_of slots_in
-slots-written [] base owner l h e = ended-empty base owner l e
-slots-written (an_operand ∷ s) base owner l h e =
-    let f = operand-fine s base owner l e in
-    ap₂ (λ (a b : List ℕ). a ++ b) (operand-back l h f.1 f.0) (slots-written s (base + 6) owner (drop 6 l) (bytes_drop 6 l h) f.2)
+slots_written [] base owner l h e = ended_empty base owner l e
+slots_written (an_operand ∷ s) base owner l h e =
+    let f = operand_fine s base owner l e in
+    ap₂ (λ (a b : List ℕ). a ++ b) (operand_back l h f.1 f.0) (slots_written s (base + 6) owner (drop 6 l) (bytes_drop 6 l h) f.2)
     ∙ take-append-drop 6 l
-slots-written (a_byte ∷ s) base owner [] h e = absurd (omega (arith, (fixed-tells 1 (slots_by s) base owner [] e).0))
-slots-written (a_byte ∷ s) base owner (x ∷ l) h e =
-    ap (λ (r : List ℕ). x ∷ r) (slots-written s (base + 1) owner l (bytes_drop 1 (x ∷ l) h) (fixed-tells 1 (slots_by s) base owner (x ∷ l) e).1)
+slots_written (a_byte ∷ s) base owner [] h e = absurd (omega (arith, (fixed_tells 1 (slots_by s) base owner [] e).0))
+slots_written (a_byte ∷ s) base owner (x ∷ l) h e =
+    ap (λ (r : List ℕ). x ∷ r) (slots_written s (base + 1) owner l (bytes_drop 1 (x ∷ l) h) (fixed_tells 1 (slots_by s) base owner (x ∷ l) e).1)
 
 -- slots in bytes fit them
-slots-fit : (s : List Shape) (l : List ℕ) → AllBytes l → Every FitsSlot (slots_in s l)
+slots_fit : (s : List Shape) (l : List ℕ) → AllBytes l → Every FitsSlot (slots_in s l)
 unfolding slots_in
-slots-fit [] l h = tt
-slots-fit (an_operand ∷ s) l h = (operand-fits l h, slots-fit s (drop 6 l) (bytes_drop 6 l h))
-slots-fit (a_byte ∷ s) l h = (h 0, slots-fit s (drop 1 l) (bytes_drop 1 l h))
+slots_fit [] l h = tt
+slots_fit (an_operand ∷ s) l h = (operand_fits l h, slots_fit s (drop 6 l) (bytes_drop 6 l h))
+slots_fit (a_byte ∷ s) l h = (h 0, slots_fit s (drop 1 l) (bytes_drop 1 l h))
 
 -- slots are fine anywhere
-slots-anywhere : (s : List Shape) → AnywhereJudge (slots_by s)
+slots_anywhere : (s : List Shape) → AnywhereJudge (slots_by s)
 unfolding slots_by
-slots-anywhere [] a o b p l e = ended-anywhere a o b p l e
-slots-anywhere (an_operand ∷ s) a o b p l e =
-    let f = operand-fine s a o l e in
-    rw (le-leb (get_or l 0 0) 2 f.0) (fixed-written 6 (slots_by s) b p l f.1 (slots-anywhere s (a + 6) o (b + 6) p (drop 6 l) f.2))
-slots-anywhere (a_byte ∷ s) a o b p l e = fixed-anywhere 1 (slots_by s) (slots-anywhere s) a o b p l e
+slots_anywhere [] a o b p l e = ended_anywhere a o b p l e
+slots_anywhere (an_operand ∷ s) a o b p l e =
+    let f = operand_fine s a o l e in
+    rw (le-leb (get_or l 0 0) 2 f.0) (fixed_written 6 (slots_by s) b p l f.1 (slots_anywhere s (a + 6) o (b + 6) p (drop 6 l) f.2))
+slots_anywhere (a_byte ∷ s) a o b p l e = fixed_anywhere 1 (slots_by s) (slots_anywhere s) a o b p l e
 
 -- slots that are written are read as they were, without a fault
-slots-fine : (slots : List Slot) (base owner : ℕ) → slots_by (shapes_of slots) base owner (all_bytes_of slot_bytes slots) ≡ Judged.Fine
+slots_fine : (slots : List Slot) (base owner : ℕ) → slots_by (shapes_of slots) base owner (all_bytes_of slot_bytes slots) ≡ Judged.Fine
 unfolding slots_by shapes_of all_bytes_of ended
-slots-fine [] base owner = refl
-slots-fine (operand o ∷ l) base owner =
+slots_fine [] base owner = refl
+slots_fine (operand o ∷ l) base owner =
     let after = all_bytes_of slot_bytes l in
-    let six : length (operand_bytes o) ≡ 6 = operand-length o in
-    rw (operand-kind o after)
-    (fixed-written 6 (slots_by (shapes_of l)) base owner (operand_bytes o ++ after) (omega (arith, length-append (operand_bytes o) after))
-    (rw (drop_at (operand_bytes o) after 6 six) (slots-fine l (base + 6) owner)))
-slots-fine (byte k ∷ l) base owner = fixed-written 1 (slots_by (shapes_of l)) base owner (k ∷ all_bytes_of slot_bytes l) (omega arith) (slots-fine l (base + 1) owner)
+    let six : length (operand_bytes o) ≡ 6 = operand_length o in
+    rw (operand_kind o after)
+    (fixed_written 6 (slots_by (shapes_of l)) base owner (operand_bytes o ++ after) (omega (arith, length-append (operand_bytes o) after))
+    (rw (drop_at (operand_bytes o) after 6 six) (slots_fine l (base + 6) owner)))
+slots_fine (byte k ∷ l) base owner = fixed_written 1 (slots_by (shapes_of l)) base owner (k ∷ all_bytes_of slot_bytes l) (omega arith) (slots_fine l (base + 1) owner)
 
-slots-back : (slots : List Slot) → Every FitsSlot slots → slots_in (shapes_of slots) (all_bytes_of slot_bytes slots) ≡ slots
+slots_back : (slots : List Slot) → Every FitsSlot slots → slots_in (shapes_of slots) (all_bytes_of slot_bytes slots) ≡ slots
 unfolding slots_in shapes_of all_bytes_of
-slots-back [] h = refl
-slots-back (operand o ∷ l) h =
+slots_back [] h = refl
+slots_back (operand o ∷ l) h =
     let after = all_bytes_of slot_bytes l in
-    let six : length (operand_bytes o) ≡ 6 = operand-length o in
-    ap₂ (λ (x : Operand) (y : List Slot). operand x ∷ y) (operand-front o after h.0.1)
-    (ap (slots_in (shapes_of l)) (drop_at (operand_bytes o) after 6 six) ∙ slots-back l h.1)
-slots-back (byte k ∷ l) h = ap (λ (y : List Slot). byte k ∷ y) (slots-back l h.1)
+    let six : length (operand_bytes o) ≡ 6 = operand_length o in
+    ap₂ (λ (x : Operand) (y : List Slot). operand x ∷ y) (operand_front o after h.0.1)
+    (ap (slots_in (shapes_of l)) (drop_at (operand_bytes o) after 6 six) ∙ slots_back l h.1)
+slots_back (byte k ∷ l) h = ap (λ (y : List Slot). byte k ∷ y) (slots_back l h.1)
 
 slots_length : (slots : List Slot) → length (all_bytes_of slot_bytes slots) ≤ 6 * length slots
 unfolding all_bytes_of
 slots_length [] = omega arith
-slots_length (operand o ∷ l) = omega (arith, slots_length l, operand-length o, length-append (operand_bytes o) (all_bytes_of slot_bytes l))
+slots_length (operand o ∷ l) = omega (arith, slots_length l, operand_length o, length-append (operand_bytes o) (all_bytes_of slot_bytes l))
 slots_length (byte k ∷ l) = omega (arith, slots_length l)
 
-slot-bytes : (s : Slot) → FitsSlot s → AllBytes (slot_bytes s)
-slot-bytes (operand o) h = operand-bytes o h
-slot-bytes (byte k) h = bytes-cons k [] h bytes-none
+slot_bytes_lem : (s : Slot) → FitsSlot s → AllBytes (slot_bytes s)
+slot_bytes_lem (operand o) h = operand_bytes_lem o h
+slot_bytes_lem (byte k) h = bytes_cons k [] h bytes_none
 
 -- cells
 
@@ -209,31 +209,31 @@ cell_of CellSort.Put w l = Cell.Put w (operand_at 0 l) (byte_at 1 l) (operand_at
 cell_of CellSort.FixedBit w l = Cell.FixedBit w (operand_at 0 l) (byte_at 1 l)
 cell_of CellSort.ChosenBit w l = Cell.ChosenBit w (operand_at 0 l) (operand_at 1 l)
 
-cell-of : (c : Cell) → cell_of (cell_sort_of c) (cell_width c) (cell_slots c) ≡ c
+cell_of_lem : (c : Cell) → cell_of (cell_sort_of c) (cell_width c) (cell_slots c) ≡ c
 unfolding cell_of operand_at byte_at
-cell-of (Cell.One op w a) = refl
-cell-of (Cell.Two op w a b) = refl
-cell-of (Cell.Mux w c a b) = refl
-cell-of (Cell.Put w v k b) = refl
-cell-of (Cell.FixedBit w v k) = refl
-cell-of (Cell.ChosenBit w v i) = refl
+cell_of_lem (Cell.One op w a) = refl
+cell_of_lem (Cell.Two op w a b) = refl
+cell_of_lem (Cell.Mux w c a b) = refl
+cell_of_lem (Cell.Put w v k b) = refl
+cell_of_lem (Cell.FixedBit w v k) = refl
+cell_of_lem (Cell.ChosenBit w v i) = refl
 
-cell-shape : (c : Cell) → shape_of (cell_sort_of c) ≡ shapes_of (cell_slots c)
+cell_shape : (c : Cell) → shape_of (cell_sort_of c) ≡ shapes_of (cell_slots c)
 unfolding shapes_of
-cell-shape (Cell.One op w a) = refl
-cell-shape (Cell.Two op w a b) = refl
-cell-shape (Cell.Mux w c a b) = refl
-cell-shape (Cell.Put w v k b) = refl
-cell-shape (Cell.FixedBit w v k) = refl
-cell-shape (Cell.ChosenBit w v i) = refl
+cell_shape (Cell.One op w a) = refl
+cell_shape (Cell.Two op w a b) = refl
+cell_shape (Cell.Mux w c a b) = refl
+cell_shape (Cell.Put w v k b) = refl
+cell_shape (Cell.FixedBit w v k) = refl
+cell_shape (Cell.ChosenBit w v i) = refl
 
-pub few-slots : (c : Cell) → length (cell_slots c) ≤ 3
-few-slots (Cell.One op w a) = omega arith
-few-slots (Cell.Two op w a b) = omega arith
-few-slots (Cell.Mux w c a b) = omega arith
-few-slots (Cell.Put w v k b) = omega arith
-few-slots (Cell.FixedBit w v k) = omega arith
-few-slots (Cell.ChosenBit w v i) = omega arith
+pub few_slots : (c : Cell) → length (cell_slots c) ≤ 3
+few_slots (Cell.One op w a) = omega arith
+few_slots (Cell.Two op w a b) = omega arith
+few_slots (Cell.Mux w c a b) = omega arith
+few_slots (Cell.Put w v k b) = omega arith
+few_slots (Cell.FixedBit w v k) = omega arith
+few_slots (Cell.ChosenBit w v i) = omega arith
 
 -- the parts of the cell in a payload: its sort, its width byte, and the slots in the rest
 cell_parts : (s : CellSort) (w : ℕ) (l : List ℕ)
@@ -250,189 +250,189 @@ cell_parts CellSort.ChosenBit w l = (refl, refl, refl)
 cell_in_lem : (s : CellSort) (w : ℕ) (l : List ℕ) → cell_in s (w ∷ l) ≡ cell_of s w (slots_in (shape_of s) l)
 cell_in_lem s w l =
     let p = cell_parts s w l in
-    sym (cell-of (cell_in s (w ∷ l))) ∙ ap₂ (λ (t : CellSort) (x : ℕ). cell_of t x (cell_slots (cell_in s (w ∷ l)))) p.0 p.1 ∙ ap (cell_of s w) p.2
+    sym (cell_of_lem (cell_in s (w ∷ l))) ∙ ap₂ (λ (t : CellSort) (x : ℕ). cell_of t x (cell_slots (cell_in s (w ∷ l)))) p.0 p.1 ∙ ap (cell_of s w) p.2
 
 -- a sort that is a cell's is one
-pub cell-sort : (s : Sort) → is_cell s ≡ true → (c : CellSort) × (s ≡ Sort.Cell c)
-cell-sort Sort.Module is = absurd (true≢false (sym is))
-cell-sort (Sort.Declaration d) is = absurd (true≢false (sym is))
-cell-sort Sort.Process is = absurd (true≢false (sym is))
-cell-sort (Sort.Statement s) is = absurd (true≢false (sym is))
-cell-sort Sort.Item is = absurd (true≢false (sym is))
-cell-sort Sort.Block is = absurd (true≢false (sym is))
-cell-sort (Sort.Expression e) is = absurd (true≢false (sym is))
-cell-sort (Sort.Cell c) is = (c, refl)
-cell-sort Sort.Drive is = absurd (true≢false (sym is))
-cell-sort Sort.Netlist is = absurd (true≢false (sym is))
-cell-sort Sort.Unknown is = absurd (true≢false (sym is))
+pub cell_sort_lem : (s : Sort) → is_cell s ≡ true → (c : CellSort) × (s ≡ Sort.Cell c)
+cell_sort_lem Sort.Module is = absurd (true≢false (sym is))
+cell_sort_lem (Sort.Declaration d) is = absurd (true≢false (sym is))
+cell_sort_lem Sort.Process is = absurd (true≢false (sym is))
+cell_sort_lem (Sort.Statement s) is = absurd (true≢false (sym is))
+cell_sort_lem Sort.Item is = absurd (true≢false (sym is))
+cell_sort_lem Sort.Block is = absurd (true≢false (sym is))
+cell_sort_lem (Sort.Expression e) is = absurd (true≢false (sym is))
+cell_sort_lem (Sort.Cell c) is = (c, refl)
+cell_sort_lem Sort.Drive is = absurd (true≢false (sym is))
+cell_sort_lem Sort.Netlist is = absurd (true≢false (sym is))
+cell_sort_lem Sort.Unknown is = absurd (true≢false (sym is))
 
-tag-bounds : (c : CellSort) → (0 < tag_of (Sort.Cell c)) × (tag_of (Sort.Cell c) < 256)
+tag_bounds : (c : CellSort) → (0 < tag_of (Sort.Cell c)) × (tag_of (Sort.Cell c) < 256)
 unfolding tag_of
-tag-bounds (CellSort.One one.Not) = (lit< tt, lit< tt)
-tag-bounds (CellSort.One one.Parity) = (lit< tt, lit< tt)
-tag-bounds (CellSort.Two two.And) = (lit< tt, lit< tt)
-tag-bounds (CellSort.Two two.Or) = (lit< tt, lit< tt)
-tag-bounds (CellSort.Two two.Xor) = (lit< tt, lit< tt)
-tag-bounds (CellSort.Two two.Add) = (lit< tt, lit< tt)
-tag-bounds (CellSort.Two two.Equal) = (lit< tt, lit< tt)
-tag-bounds CellSort.Mux = (lit< tt, lit< tt)
-tag-bounds CellSort.Put = (lit< tt, lit< tt)
-tag-bounds CellSort.FixedBit = (lit< tt, lit< tt)
-tag-bounds CellSort.ChosenBit = (lit< tt, lit< tt)
+tag_bounds (CellSort.One one.Not) = (lit< tt, lit< tt)
+tag_bounds (CellSort.One one.Parity) = (lit< tt, lit< tt)
+tag_bounds (CellSort.Two two.And) = (lit< tt, lit< tt)
+tag_bounds (CellSort.Two two.Or) = (lit< tt, lit< tt)
+tag_bounds (CellSort.Two two.Xor) = (lit< tt, lit< tt)
+tag_bounds (CellSort.Two two.Add) = (lit< tt, lit< tt)
+tag_bounds (CellSort.Two two.Equal) = (lit< tt, lit< tt)
+tag_bounds CellSort.Mux = (lit< tt, lit< tt)
+tag_bounds CellSort.Put = (lit< tt, lit< tt)
+tag_bounds CellSort.FixedBit = (lit< tt, lit< tt)
+tag_bounds CellSort.ChosenBit = (lit< tt, lit< tt)
 
-pub cell-known : Known is_cell
-cell-known s is e = let f = cell-sort s is in omega (arith, (tag-bounds f.0).0, ap tag_of f.1)
+pub cell_known : Known is_cell
+cell_known s is e = let f = cell_sort_lem s is in omega (arith, (tag_bounds f.0).0, ap tag_of f.1)
 
 -- a payload without a fault has a width byte, and its slots follow
-cell-fine : (at : ℕ) (c : CellSort) (l : List ℕ) → cell_body at (Sort.Cell c) l ≡ Judged.Fine
+cell_fine : (at : ℕ) (c : CellSort) (l : List ℕ) → cell_body at (Sort.Cell c) l ≡ Judged.Fine
     → (1 ≤ length l) × (slots_by (shape_of c) (at + 3 + 1) at (drop 1 l) ≡ Judged.Fine)
 unfolding cell_body
-cell-fine at c l e = fixed-tells 1 (slots_by (shape_of c)) (at + 3) at l e
+cell_fine at c l e = fixed_tells 1 (slots_by (shape_of c)) (at + 3) at l e
 
 -- what is read of a cell without a fault is written as it stood
-cell-written : (at : ℕ) (c : CellSort) (l : List ℕ) → AllBytes l → cell_body at (Sort.Cell c) l ≡ Judged.Fine
+cell_written : (at : ℕ) (c : CellSort) (l : List ℕ) → AllBytes l → cell_body at (Sort.Cell c) l ≡ Judged.Fine
     → cell_bytes (cell_read (Sort.Cell c) l) ≡ field_bytes (tag_of (Sort.Cell c)) l
 unfolding cell_bytes cell_read
-cell-written at c [] h e = absurd (omega (arith, (cell-fine at c [] e).0))
-cell-written at c (w ∷ l) h e =
+cell_written at c [] h e = absurd (omega (arith, (cell_fine at c [] e).0))
+cell_written at c (w ∷ l) h e =
     let p = cell_parts c w l in
     let whole : cell_width (cell_in c (w ∷ l)) ∷ all_bytes_of slot_bytes (cell_slots (cell_in c (w ∷ l))) ≡ w ∷ l =
     ap₂ (λ (x : ℕ) (y : List Slot). x ∷ all_bytes_of slot_bytes y) p.1 p.2
-    ∙ ap (λ (y : List ℕ). w ∷ y) (slots-written (shape_of c) (at + 3 + 1) at l (bytes_drop 1 (w ∷ l) h) (cell-fine at c (w ∷ l) e).1) in
+    ∙ ap (λ (y : List ℕ). w ∷ y) (slots_written (shape_of c) (at + 3 + 1) at l (bytes_drop 1 (w ∷ l) h) (cell_fine at c (w ∷ l) e).1) in
     ap₂ (λ (s : CellSort) (y : List ℕ). field_bytes (tag_of (Sort.Cell s)) y) p.0 whole
 
-pub cell-back : (at : ℕ) (s : Sort) (l : List ℕ) → AllBytes l → is_cell s ≡ true → cell_body at s l ≡ Judged.Fine → cell_bytes (cell_read s l) ≡ field_bytes (tag_of s) l
-cell-back at s l h is fine =
-    let f = cell-sort s is in
+pub cell_back : (at : ℕ) (s : Sort) (l : List ℕ) → AllBytes l → is_cell s ≡ true → cell_body at s l ≡ Judged.Fine → cell_bytes (cell_read s l) ≡ field_bytes (tag_of s) l
+cell_back at s l h is fine =
+    let f = cell_sort_lem s is in
     subst (λ (s : Sort). cell_bytes (cell_read s l) ≡ field_bytes (tag_of s) l) (sym f.1)
-    (cell-written at f.0 l h (ap (λ (s : Sort). cell_body at s l) (sym f.1) ∙ fine))
+    (cell_written at f.0 l h (ap (λ (s : Sort). cell_body at s l) (sym f.1) ∙ fine))
 
 -- a cell in bytes fits them
-cell-in-fits : (at : ℕ) (c : CellSort) (l : List ℕ) → AllBytes l → cell_body at (Sort.Cell c) l ≡ Judged.Fine → FitsCell (cell_read (Sort.Cell c) l)
+cell_in_fits : (at : ℕ) (c : CellSort) (l : List ℕ) → AllBytes l → cell_body at (Sort.Cell c) l ≡ Judged.Fine → FitsCell (cell_read (Sort.Cell c) l)
 unfolding cell_read
-cell-in-fits at c [] h e = absurd (omega (arith, (cell-fine at c [] e).0))
-cell-in-fits at c (w ∷ l) h e =
+cell_in_fits at c [] h e = absurd (omega (arith, (cell_fine at c [] e).0))
+cell_in_fits at c (w ∷ l) h e =
     let p = cell_parts c w l in
-    (rw p.1 (h 0), subst (λ (y : List Slot). Every FitsSlot y) (sym p.2) (slots-fit (shape_of c) l (bytes_drop 1 (w ∷ l) h)))
+    (rw p.1 (h 0), subst (λ (y : List Slot). Every FitsSlot y) (sym p.2) (slots_fit (shape_of c) l (bytes_drop 1 (w ∷ l) h)))
 
-pub cell-fits : (at : ℕ) (s : Sort) (l : List ℕ) → AllBytes l → length l < 65536 → is_cell s ≡ true → cell_body at s l ≡ Judged.Fine → FitsCell (cell_read s l)
-cell-fits at s l h short is fine =
-    let f = cell-sort s is in
-    subst (λ (s : Sort). FitsCell (cell_read s l)) (sym f.1) (cell-in-fits at f.0 l h (ap (λ (s : Sort). cell_body at s l) (sym f.1) ∙ fine))
+pub cell_fits : (at : ℕ) (s : Sort) (l : List ℕ) → AllBytes l → length l < 65536 → is_cell s ≡ true → cell_body at s l ≡ Judged.Fine → FitsCell (cell_read s l)
+cell_fits at s l h short is fine =
+    let f = cell_sort_lem s is in
+    subst (λ (s : Sort). FitsCell (cell_read s l)) (sym f.1) (cell_in_fits at f.0 l h (ap (λ (s : Sort). cell_body at s l) (sym f.1) ∙ fine))
 
 -- a cell is fine anywhere
-pub cell-anywhere : AnywhereBody cell_body
+pub cell_anywhere : AnywhereBody cell_body
 unfolding cell_body
-cell-anywhere a b Sort.Module l e = absurd (let z : ◌≡◌ {A = ℕ} 0 1 = cc in omega arith)
-cell-anywhere a b (Sort.Declaration d) l e = absurd (let z : ◌≡◌ {A = ℕ} 0 1 = cc in omega arith)
-cell-anywhere a b Sort.Process l e = absurd (let z : ◌≡◌ {A = ℕ} 0 1 = cc in omega arith)
-cell-anywhere a b (Sort.Statement s) l e = absurd (let z : ◌≡◌ {A = ℕ} 0 1 = cc in omega arith)
-cell-anywhere a b Sort.Item l e = absurd (let z : ◌≡◌ {A = ℕ} 0 1 = cc in omega arith)
-cell-anywhere a b Sort.Block l e = absurd (let z : ◌≡◌ {A = ℕ} 0 1 = cc in omega arith)
-cell-anywhere a b (Sort.Expression s) l e = absurd (let z : ◌≡◌ {A = ℕ} 0 1 = cc in omega arith)
-cell-anywhere a b (Sort.Cell c) l e = fixed-anywhere 1 (slots_by (shape_of c)) (slots-anywhere (shape_of c)) (a + 3) a (b + 3) b l e
-cell-anywhere a b Sort.Drive l e = absurd (let z : ◌≡◌ {A = ℕ} 0 1 = cc in omega arith)
-cell-anywhere a b Sort.Netlist l e = absurd (let z : ◌≡◌ {A = ℕ} 0 1 = cc in omega arith)
-cell-anywhere a b Sort.Unknown l e = absurd (let z : ◌≡◌ {A = ℕ} 0 1 = cc in omega arith)
+cell_anywhere a b Sort.Module l e = absurd (let z : ◌≡◌ {A = ℕ} 0 1 = cc in omega arith)
+cell_anywhere a b (Sort.Declaration d) l e = absurd (let z : ◌≡◌ {A = ℕ} 0 1 = cc in omega arith)
+cell_anywhere a b Sort.Process l e = absurd (let z : ◌≡◌ {A = ℕ} 0 1 = cc in omega arith)
+cell_anywhere a b (Sort.Statement s) l e = absurd (let z : ◌≡◌ {A = ℕ} 0 1 = cc in omega arith)
+cell_anywhere a b Sort.Item l e = absurd (let z : ◌≡◌ {A = ℕ} 0 1 = cc in omega arith)
+cell_anywhere a b Sort.Block l e = absurd (let z : ◌≡◌ {A = ℕ} 0 1 = cc in omega arith)
+cell_anywhere a b (Sort.Expression s) l e = absurd (let z : ◌≡◌ {A = ℕ} 0 1 = cc in omega arith)
+cell_anywhere a b (Sort.Cell c) l e = fixed_anywhere 1 (slots_by (shape_of c)) (slots_anywhere (shape_of c)) (a + 3) a (b + 3) b l e
+cell_anywhere a b Sort.Drive l e = absurd (let z : ◌≡◌ {A = ℕ} 0 1 = cc in omega arith)
+cell_anywhere a b Sort.Netlist l e = absurd (let z : ◌≡◌ {A = ℕ} 0 1 = cc in omega arith)
+cell_anywhere a b Sort.Unknown l e = absurd (let z : ◌≡◌ {A = ℕ} 0 1 = cc in omega arith)
 
 -- a cell's payload
 cell_payload : Cell → List ℕ
 cell_payload c = cell_width c ∷ all_bytes_of slot_bytes (cell_slots c)
 
-payload-short : (c : Cell) → length (cell_payload c) ≤ 19
+payload_short : (c : Cell) → length (cell_payload c) ≤ 19
 unfolding cell_payload
-payload-short c = omega (arith, slots_length (cell_slots c), few-slots c)
+payload_short c = omega (arith, slots_length (cell_slots c), few_slots c)
 
 -- a cell whose numbers fit their bytes stands as a field that is read as it was
-pub cell-stands : (c : Cell) → FitsCell c → Stands is_cell cell_body cell_read cell_bytes c
+pub cell_stands : (c : Cell) → FitsCell c → Stands is_cell cell_body cell_read cell_bytes c
 unfolding cell_bytes cell_body cell_read cell_payload
-cell-stands c h = record {
+cell_stands c h = record {
   sort = Sort.Cell (cell_sort_of c);
   payload = cell_payload c;
   field = refl;
-  short = omega (arith, payload-short c);
+  short = omega (arith, payload_short c);
   is = refl;
-  fine = λ base. fixed-written 1 (slots_by (shape_of (cell_sort_of c))) (base + 3) base (cell_payload c) (omega arith)
-      (subst (λ (s : List Shape). slots_by s (base + 3 + 1) base (all_bytes_of slot_bytes (cell_slots c)) ≡ Judged.Fine) (sym (cell-shape c))
-      (slots-fine (cell_slots c) (base + 3 + 1) base));
+  fine = λ base. fixed_written 1 (slots_by (shape_of (cell_sort_of c))) (base + 3) base (cell_payload c) (omega arith)
+      (subst (λ (s : List Shape). slots_by s (base + 3 + 1) base (all_bytes_of slot_bytes (cell_slots c)) ≡ Judged.Fine) (sym (cell_shape c))
+      (slots_fine (cell_slots c) (base + 3 + 1) base));
   back = cell_in_lem (cell_sort_of c) (cell_width c) (all_bytes_of slot_bytes (cell_slots c))
       ∙ ap (cell_of (cell_sort_of c) (cell_width c))
-      (ap (λ (s : List Shape). slots_in s (all_bytes_of slot_bytes (cell_slots c))) (cell-shape c) ∙ slots-back (cell_slots c) h.1)
-      ∙ cell-of c;
+      (ap (λ (s : List Shape). slots_in s (all_bytes_of slot_bytes (cell_slots c))) (cell_shape c) ∙ slots_back (cell_slots c) h.1)
+      ∙ cell_of_lem c;
 }
 
-pub cell-length : (c : Cell) → length (cell_bytes c) ≤ 22
+pub cell_length : (c : Cell) → length (cell_bytes c) ≤ 22
 unfolding cell_bytes cell_payload
-cell-length c =
-    let long : length (cell_bytes c) ≡ length (cell_payload c) + 3 = field-length (tag_of (Sort.Cell (cell_sort_of c))) (cell_payload c) in
-    let short : length (cell_payload c) ≤ 19 = payload-short c in
+cell_length c =
+    let long : length (cell_bytes c) ≡ length (cell_payload c) + 3 = field_length (tag_of (Sort.Cell (cell_sort_of c))) (cell_payload c) in
+    let short : length (cell_payload c) ≤ 19 = payload_short c in
     omega arith
 
-pub cell-bytes : (c : Cell) → FitsCell c → AllBytes (cell_bytes c)
+pub cell_bytes_lem : (c : Cell) → FitsCell c → AllBytes (cell_bytes c)
 unfolding cell_bytes
-cell-bytes c h =
-    field-bytes (tag_of (Sort.Cell (cell_sort_of c))) (cell_width c ∷ all_bytes_of slot_bytes (cell_slots c)) (tag-bounds (cell_sort_of c)).1
-    (bytes-cons (cell_width c) (all_bytes_of slot_bytes (cell_slots c)) h.0 (all-bytes slot_bytes (cell_slots c) (λ x m. slot-bytes x (every-member FitsSlot x h.1 m))))
+cell_bytes_lem c h =
+    field_bytes_lem (tag_of (Sort.Cell (cell_sort_of c))) (cell_width c ∷ all_bytes_of slot_bytes (cell_slots c)) (tag_bounds (cell_sort_of c)).1
+    (bytes_cons (cell_width c) (all_bytes_of slot_bytes (cell_slots c)) h.0 (all_bytes slot_bytes (cell_slots c) (λ x m. slot_bytes_lem x (every_member FitsSlot x h.1 m))))
 
 -- drives
 
-pub drive-known : Known (is_sort Sort.Drive)
+pub drive_known : Known (is_sort Sort.Drive)
 unfolding tag_of
-drive-known = sort-known Sort.Drive (λ e. omega arith)
+drive_known = sort_known Sort.Drive (λ e. omega arith)
 
 -- the slots of a drive's payload after its variable byte
 abbrev drive_shape : List Shape
 drive_shape = an_operand ∷ []
 
 -- a payload without a fault is a drive's: it has a variable byte, and its operand follows
-pub drive-fine : (at : ℕ) (s : Sort) (l : List ℕ) → drive_body at s l ≡ Judged.Fine
+pub drive_fine : (at : ℕ) (s : Sort) (l : List ℕ) → drive_body at s l ≡ Judged.Fine
     → (is_sort Sort.Drive s ≡ true) × (1 ≤ length l) × (slots_by drive_shape (at + 3 + 1) at (drop 1 l) ≡ Judged.Fine)
 unfolding drive_body
-drive-fine at s l e =
-    let c = sort-fine Sort.Drive s (fixed_then 1 (slots_by drive_shape) (at + 3) at l) at e in
-    let f = fixed-tells 1 (slots_by drive_shape) (at + 3) at l c.1 in
+drive_fine at s l e =
+    let c = sort_fine Sort.Drive s (fixed_then 1 (slots_by drive_shape) (at + 3) at l) at e in
+    let f = fixed_tells 1 (slots_by drive_shape) (at + 3) at l c.1 in
     (c.0, f.0, f.1)
 
-drive-pass : (at : ℕ) (s : Sort) (l : List ℕ) → is_sort Sort.Drive s ≡ true → 1 ≤ length l → slots_by drive_shape (at + 3 + 1) at (drop 1 l) ≡ Judged.Fine
+drive_pass : (at : ℕ) (s : Sort) (l : List ℕ) → is_sort Sort.Drive s ≡ true → 1 ≤ length l → slots_by drive_shape (at + 3 + 1) at (drop 1 l) ≡ Judged.Fine
     → drive_body at s l ≡ Judged.Fine
 unfolding drive_body
-drive-pass at s l is h e = rw is (fixed-written 1 (slots_by drive_shape) (at + 3) at l h e)
+drive_pass at s l is h e = rw is (fixed_written 1 (slots_by drive_shape) (at + 3) at l h e)
 
-pub drive-back : (at : ℕ) (s : Sort) (l : List ℕ) → AllBytes l → is_sort Sort.Drive s ≡ true → drive_body at s l ≡ Judged.Fine
+pub drive_back : (at : ℕ) (s : Sort) (l : List ℕ) → AllBytes l → is_sort Sort.Drive s ≡ true → drive_body at s l ≡ Judged.Fine
     → drive_bytes (drive_read s l) ≡ field_bytes (tag_of s) l
 unfolding drive_bytes drive_read slots_in all_bytes_of
-drive-back at s [] h is e = absurd (omega (arith, (drive-fine at s [] e).1))
-drive-back at s (v ∷ l) h is e =
-    let f = drive-fine at s (v ∷ l) e in
-    let whole : operand_bytes (operand_in l) ++ [] ≡ l = slots-written drive_shape (at + 3 + 1) at l (bytes_drop 1 (v ∷ l) h) f.2 in
+drive_back at s [] h is e = absurd (omega (arith, (drive_fine at s [] e).1))
+drive_back at s (v ∷ l) h is e =
+    let f = drive_fine at s (v ∷ l) e in
+    let whole : operand_bytes (operand_in l) ++ [] ≡ l = slots_written drive_shape (at + 3 + 1) at l (bytes_drop 1 (v ∷ l) h) f.2 in
     ap₂ (λ (t : ℕ) (y : List ℕ). field_bytes t (v ∷ y)) (eqb-true (tag_of Sort.Drive) (tag_of s) is) (sym (append-nil (operand_bytes (operand_in l))) ∙ whole)
 
-pub drive-fits : (at : ℕ) (s : Sort) (l : List ℕ) → AllBytes l → length l < 65536 → is_sort Sort.Drive s ≡ true → drive_body at s l ≡ Judged.Fine
+pub drive_fits : (at : ℕ) (s : Sort) (l : List ℕ) → AllBytes l → length l < 65536 → is_sort Sort.Drive s ≡ true → drive_body at s l ≡ Judged.Fine
     → FitsDrive (drive_read s l)
 unfolding drive_read
-drive-fits at s l h short is fine = (h 0, operand-fits (drop 1 l) (bytes_drop 1 l h))
+drive_fits at s l h short is fine = (h 0, operand_fits (drop 1 l) (bytes_drop 1 l h))
 
 -- a drive whose numbers fit their bytes stands as a field that is read as it was, wherever drives are wanted
-pub drive-stands : (wanted : Sort → Bool) → wanted Sort.Drive ≡ true → (d : Drive) → FitsDrive d → Stands wanted drive_body drive_read drive_bytes d
+pub drive_stands : (wanted : Sort → Bool) → wanted Sort.Drive ≡ true → (d : Drive) → FitsDrive d → Stands wanted drive_body drive_read drive_bytes d
 unfolding drive_bytes drive_read slots_in shapes_of all_bytes_of
-drive-stands wanted is d h = record {
+drive_stands wanted is d h = record {
   sort = Sort.Drive;
   payload = d.variable ∷ operand_bytes d.operand;
   field = refl;
-  short = omega (arith, operand-length d.operand);
+  short = omega (arith, operand_length d.operand);
   is = is;
-  fine = λ base. drive-pass base Sort.Drive (d.variable ∷ operand_bytes d.operand) (is-itself Sort.Drive) (omega arith)
-      (rw (← append-nil (operand_bytes d.operand)) (slots-fine (operand d.operand ∷ []) (base + 3 + 1) base));
+  fine = λ base. drive_pass base Sort.Drive (d.variable ∷ operand_bytes d.operand) (is_itself Sort.Drive) (omega arith)
+      (rw (← append-nil (operand_bytes d.operand)) (slots_fine (operand d.operand ∷ []) (base + 3 + 1) base));
   back = ap (λ (o : Operand). record { variable = d.variable; operand = o })
-      (ap operand_in (sym (append-nil (operand_bytes d.operand))) ∙ operand-front d.operand [] h.1.1);
+      (ap operand_in (sym (append-nil (operand_bytes d.operand))) ∙ operand_front d.operand [] h.1.1);
 }
 
-pub drive-length : (d : Drive) → length (drive_bytes d) ≡ 10
+pub drive_length : (d : Drive) → length (drive_bytes d) ≡ 10
 unfolding drive_bytes
-drive-length d = field-length (tag_of Sort.Drive) (d.variable ∷ operand_bytes d.operand) ∙ omega (arith, operand-length d.operand)
+drive_length d = field_length (tag_of Sort.Drive) (d.variable ∷ operand_bytes d.operand) ∙ omega (arith, operand_length d.operand)
 
-pub drive-bytes : (d : Drive) → FitsDrive d → AllBytes (drive_bytes d)
+pub drive_bytes_lem : (d : Drive) → FitsDrive d → AllBytes (drive_bytes d)
 unfolding drive_bytes tag_of
-drive-bytes d h =
-    field-bytes (tag_of Sort.Drive) (d.variable ∷ operand_bytes d.operand) (lit< tt)
-    (bytes-cons d.variable (operand_bytes d.operand) h.0 (operand-bytes d.operand h.1))
+drive_bytes_lem d h =
+    field_bytes_lem (tag_of Sort.Drive) (d.variable ∷ operand_bytes d.operand) (lit< tt)
+    (bytes_cons d.variable (operand_bytes d.operand) h.0 (operand_bytes_lem d.operand h.1))

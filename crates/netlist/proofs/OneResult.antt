@@ -9,9 +9,9 @@ use Rattle.tagged.proofs.AnswerLaws.{one_answer_lem, coincide}
 use Rattle.netlist.specs.Answer.{netlist_answer}
 use Rattle.netlist.specs.Run.{run_answer, run_leaves}
 
-pub read-once : (file : List ℕ) {a b : Answer} → a ≡ netlist_answer file → b ≡ netlist_answer file → a ≡ b
-read-once file p q = one_answer_lem p q
+pub read_once : (file : List ℕ) {a b : Answer} → a ≡ netlist_answer file → b ≡ netlist_answer file → a ≡ b
+read_once file p q = one_answer_lem p q
 
-pub run-once : (file row next : List ℕ) {a b : Answer} {left held : List ℕ} → Promise (run_answer file row (length next)) (run_leaves file row next) a left →
+pub run_once : (file row next : List ℕ) {a b : Answer} {left held : List ℕ} → Promise (run_answer file row (length next)) (run_leaves file row next) a left →
     Promise (run_answer file row (length next)) (run_leaves file row next) b held → (a ≡ b) × (left ≡ held)
-run-once file row next p q = coincide p q
+run_once file row next p q = coincide p q

@@ -17,15 +17,15 @@ pub record Registered (from : ℕ) (ds : List Declaration) (v : ℕ) : Type 0 wh
   pub counted : v ≡ from + number
   pub marked : register_at ds number ≡ true
 
-pub registers-marked : (from : ℕ) (ds : List Declaration) (i : ℕ) → i < length (registers_from from ds) → Registered from ds (get_or (registers_from from ds) i 0)
+pub registers_marked : (from : ℕ) (ds : List Declaration) (i : ℕ) → i < length (registers_from from ds) → Registered from ds (get_or (registers_from from ds) i 0)
 unfolding registers_from
-registers-marked from [] i h = absurd (omega arith)
-registers-marked from (input w name ∷ ds) i h =
-    let r = registers-marked (from + 1) ds i h in
+registers_marked from [] i h = absurd (omega arith)
+registers_marked from (input w name ∷ ds) i h =
+    let r = registers_marked (from + 1) ds i h in
     record { number = suc r.number; counted = omega (arith, r.counted); marked = r.marked }
-registers-marked from (register w initial name ∷ ds) zero h = record { number = 0; counted = omega arith; marked = refl }
-registers-marked from (register w initial name ∷ ds) (suc i) h =
-    let r = registers-marked (from + 1) ds i (omega arith) in
+registers_marked from (register w initial name ∷ ds) zero h = record { number = 0; counted = omega arith; marked = refl }
+registers_marked from (register w initial name ∷ ds) (suc i) h =
+    let r = registers_marked (from + 1) ds i (omega arith) in
     record { number = suc r.number; counted = omega (arith, r.counted); marked = r.marked }
 
 -- the register v has an index among the numbers
@@ -34,35 +34,35 @@ pub record Indexed (from : ℕ) (ds : List Declaration) (v : ℕ) : Type 0 where
   pub within : index < length (registers_from from ds)
   pub found : get_or (registers_from from ds) index 0 ≡ from + v
 
-pub registers-indexed : (from : ℕ) (ds : List Declaration) (v : ℕ) → register_at ds v ≡ true → Indexed from ds v
+pub registers_indexed : (from : ℕ) (ds : List Declaration) (v : ℕ) → register_at ds v ≡ true → Indexed from ds v
 unfolding registers_from
-registers-indexed from [] v e = absurd (false≢true e)
-registers-indexed from (input w name ∷ ds) zero e = absurd (false≢true e)
-registers-indexed from (input w name ∷ ds) (suc v) e =
-    let r = registers-indexed (from + 1) ds v e in
+registers_indexed from [] v e = absurd (false≢true e)
+registers_indexed from (input w name ∷ ds) zero e = absurd (false≢true e)
+registers_indexed from (input w name ∷ ds) (suc v) e =
+    let r = registers_indexed (from + 1) ds v e in
     record { index = r.index; within = r.within; found = r.found ∙ omega arith }
-registers-indexed from (register w initial name ∷ ds) zero e = record { index = 0; within = omega arith; found = omega arith }
-registers-indexed from (register w initial name ∷ ds) (suc v) e =
-    let r = registers-indexed (from + 1) ds v e in
+registers_indexed from (register w initial name ∷ ds) zero e = record { index = 0; within = omega arith; found = omega arith }
+registers_indexed from (register w initial name ∷ ds) (suc v) e =
+    let r = registers_indexed (from + 1) ds v e in
     record { index = suc r.index; within = omega (arith, r.within); found = r.found ∙ omega arith }
 
-pub registers-rise : (from : ℕ) (ds : List Declaration) (i j : ℕ) → i < j → j < length (registers_from from ds) →
+pub registers_rise : (from : ℕ) (ds : List Declaration) (i j : ℕ) → i < j → j < length (registers_from from ds) →
     get_or (registers_from from ds) i 0 < get_or (registers_from from ds) j 0
 unfolding registers_from
-registers-rise from [] i j less h = absurd (omega arith)
-registers-rise from (input w name ∷ ds) i j less h = registers-rise (from + 1) ds i j less h
-registers-rise from (register w initial name ∷ ds) i zero less h = absurd (omega arith)
-registers-rise from (register w initial name ∷ ds) zero (suc j) less h = omega (arith, (registers-marked (from + 1) ds j (omega arith)).counted)
-registers-rise from (register w initial name ∷ ds) (suc i) (suc j) less h = registers-rise (from + 1) ds i j (omega arith) (omega arith)
+registers_rise from [] i j less h = absurd (omega arith)
+registers_rise from (input w name ∷ ds) i j less h = registers_rise (from + 1) ds i j less h
+registers_rise from (register w initial name ∷ ds) i zero less h = absurd (omega arith)
+registers_rise from (register w initial name ∷ ds) zero (suc j) less h = omega (arith, (registers_marked (from + 1) ds j (omega arith)).counted)
+registers_rise from (register w initial name ∷ ds) (suc i) (suc j) less h = registers_rise (from + 1) ds i j (omega arith) (omega arith)
 
 -- a register is marked, an input is not
-mark-register : (d : Declaration) → (mark_of d ≡ 0 → ⊥) → is_register d ≡ true
-mark-register (input w name) some = absurd (some refl)
-mark-register (register w initial name) some = refl
+mark_register : (d : Declaration) → (mark_of d ≡ 0 → ⊥) → is_register d ≡ true
+mark_register (input w name) some = absurd (some refl)
+mark_register (register w initial name) some = refl
 
-mark-input : (d : Declaration) → mark_of d ≡ 0 → is_register d ≡ false
-mark-input (input w name) none = refl
-mark-input (register w initial name) none = absurd (omega arith)
+mark_input : (d : Declaration) → mark_of d ≡ 0 → is_register d ≡ false
+mark_input (input w name) none = refl
+mark_input (register w initial name) none = absurd (omega arith)
 
 -- the loop has come to the index `at` of the marks, and listed so many numbers
 module _ (ds : List Declaration) (marks : List ℕ) (marked : map mark_of ds ≡ marks) (at : ℕ) (within : at < length marks) (numbers : List ℕ) (count : ℕ)
@@ -76,22 +76,22 @@ module _ (ds : List Declaration) (marks : List ℕ) (marked : map mark_of ds ≡
       let one : suc at ≡ at + 1 = omega arith in
       rw one at (drop-cons ds at (input 0 []) (omega arith))
 
-  mark-here : mark_of here ≡ get_or marks at 0
-  mark-here = sym (get_or-map mark_of ds at (input 0 [])) ∙ ap (λ (l : List ℕ). get_or l at 0) marked
+  mark_here : mark_of here ≡ get_or marks at 0
+  mark_here = sym (get_or-map mark_of ds at (input 0 [])) ∙ ap (λ (l : List ℕ). get_or l at 0) marked
 
   turn : registers_from at (drop at ds) ≡ cond (is_register here) (at ∷ registers_from (at + 1) (drop (at + 1) ds)) (registers_from (at + 1) (drop (at + 1) ds))
   unfolding registers_from
   turn = rw ahead
 
-  pub register-listed : (get_or marks at 0 ≡ 0 → ⊥) → count < length numbers →
+  pub register_listed : (get_or marks at 0 ≡ 0 → ⊥) → count < length numbers →
       take (count + 1) (set numbers count at) ++ registers_from (at + 1) (drop (at + 1) ds) ≡ registers_from 0 ds
-  register-listed some room =
+  register_listed some room =
       let one : suc count ≡ count + 1 = omega arith in
-      let is = mark-register here (λ e. some (sym mark-here ∙ e)) in
+      let is = mark_register here (λ e. some (sym mark_here ∙ e)) in
       let later = registers_from (at + 1) (drop (at + 1) ds) in
       ap (λ (l : List ℕ). l ++ later) (rw one at (take-suc-set numbers count at room))
       ∙ append_assoc (take count numbers) (at ∷ []) later
       ∙ ap (λ (l : List ℕ). take count numbers ++ l) (sym (rw is at turn)) ∙ going
 
-  pub input-passed : get_or marks at 0 ≡ 0 → take count numbers ++ registers_from (at + 1) (drop (at + 1) ds) ≡ registers_from 0 ds
-  input-passed none = ap (λ (l : List ℕ). take count numbers ++ l) (sym (rw (mark-input here (mark-here ∙ none)) at turn)) ∙ going
+  pub input_passed : get_or marks at 0 ≡ 0 → take count numbers ++ registers_from (at + 1) (drop (at + 1) ds) ≡ registers_from 0 ds
+  input_passed none = ap (λ (l : List ℕ). take count numbers ++ l) (sym (rw (mark_input here (mark_here ∙ none)) at turn)) ∙ going

@@ -16,50 +16,50 @@ use Rattle.netlist.specs.Lists.{Netlist}
 use Rattle.netlist.specs.Form.{operand_bytes, cell_bytes, drive_bytes, netlist_payload}
 use Rattle.netlist.specs.Rules.{cell_outside}
 use Rattle.netlist.specs.WalkAnswers.{most_listed}
-use Rattle.netlist.proofs.CellBytes.{operand-length}
+use Rattle.netlist.proofs.CellBytes.{operand_length}
 use Rattle.netlist.specs.contracts.Cell as cells
 
 -- the cells without a bit number or an index
-pub no-bit : (c : Cell) → ((w : ℕ) (v : Operand) (n : ℕ) (b : Operand) → c ≡ Cell.Put w v n b → ⊥) →
+pub no_bit : (c : Cell) → ((w : ℕ) (v : Operand) (n : ℕ) (b : Operand) → c ≡ Cell.Put w v n b → ⊥) →
     ((w : ℕ) (v : Operand) (n : ℕ) → c ≡ Cell.FixedBit w v n → ⊥) → ((w : ℕ) (v i : Operand) → c ≡ Cell.ChosenBit w v i → ⊥) → false ≡ cell_outside c
 unfolding cell_outside
-no-bit (Cell.One op w a) put fixed chosen = refl
-no-bit (Cell.Two op w a b) put fixed chosen = refl
-no-bit (Cell.Mux w c a b) put fixed chosen = refl
-no-bit (Cell.Put w v n b) put fixed chosen = absurd (put w v n b refl)
-no-bit (Cell.FixedBit w v n) put fixed chosen = absurd (fixed w v n refl)
-no-bit (Cell.ChosenBit w v i) put fixed chosen = absurd (chosen w v i refl)
+no_bit (Cell.One op w a) put fixed chosen = refl
+no_bit (Cell.Two op w a b) put fixed chosen = refl
+no_bit (Cell.Mux w c a b) put fixed chosen = refl
+no_bit (Cell.Put w v n b) put fixed chosen = absurd (put w v n b refl)
+no_bit (Cell.FixedBit w v n) put fixed chosen = absurd (fixed w v n refl)
+no_bit (Cell.ChosenBit w v i) put fixed chosen = absurd (chosen w v i refl)
 
 -- as many as there are numbers in their list
 pub counted : {A : Type 0} (f : A → ℕ) (items : List A) {l : List ℕ} → map f items ≡ l → length items ≡ length l
 counted f items e = sym (length-map items f) ∙ ap length e
 
 -- a cell takes at least ten bytes
-cell-bytes-least : (c : Cell) → 10 ≤ length (cell_bytes c)
+cell_bytes_least : (c : Cell) → 10 ≤ length (cell_bytes c)
 unfolding cell_bytes field_bytes two_bytes all_bytes_of
-cell-bytes-least (Cell.One op w a) = omega (arith, length-append (operand_bytes a) [], operand-length a)
-cell-bytes-least (Cell.Two op w a b) = omega (arith, length-append (operand_bytes a) (operand_bytes b ++ []), operand-length a)
-cell-bytes-least (Cell.Mux w c a b) = omega (arith, length-append (operand_bytes c) (operand_bytes a ++ (operand_bytes b ++ [])), operand-length c)
-cell-bytes-least (Cell.Put w v k b) = omega (arith, length-append (operand_bytes v) (k ∷ (operand_bytes b ++ [])), operand-length v)
-cell-bytes-least (Cell.FixedBit w v k) = omega (arith, length-append (operand_bytes v) (k ∷ []), operand-length v)
-cell-bytes-least (Cell.ChosenBit w v i) = omega (arith, length-append (operand_bytes v) (operand_bytes i ++ []), operand-length v)
+cell_bytes_least (Cell.One op w a) = omega (arith, length-append (operand_bytes a) [], operand_length a)
+cell_bytes_least (Cell.Two op w a b) = omega (arith, length-append (operand_bytes a) (operand_bytes b ++ []), operand_length a)
+cell_bytes_least (Cell.Mux w c a b) = omega (arith, length-append (operand_bytes c) (operand_bytes a ++ (operand_bytes b ++ [])), operand_length c)
+cell_bytes_least (Cell.Put w v k b) = omega (arith, length-append (operand_bytes v) (k ∷ (operand_bytes b ++ [])), operand_length v)
+cell_bytes_least (Cell.FixedBit w v k) = omega (arith, length-append (operand_bytes v) (k ∷ []), operand_length v)
+cell_bytes_least (Cell.ChosenBit w v i) = omega (arith, length-append (operand_bytes v) (operand_bytes i ++ []), operand_length v)
 
-cells-bytes-least : (cs : List Cell) → length cs * 10 ≤ length (all_bytes_of cell_bytes cs)
+cells_bytes_least : (cs : List Cell) → length cs * 10 ≤ length (all_bytes_of cell_bytes cs)
 unfolding all_bytes_of
-cells-bytes-least [] = omega arith
-cells-bytes-least (c ∷ cs) =
-    let first = cell-bytes-least c in
-    let later = cells-bytes-least cs in
+cells_bytes_least [] = omega arith
+cells_bytes_least (c ∷ cs) =
+    let first = cell_bytes_least c in
+    let later = cells_bytes_least cs in
     let both : length (cell_bytes c ++ all_bytes_of cell_bytes cs) ≡ length (cell_bytes c) + length (all_bytes_of cell_bytes cs) = length-append (cell_bytes c)
     (all_bytes_of cell_bytes cs) in
     let product : suc (length cs) * 10 ≡ 10 + length cs * 10 = omega arith in
     omega arith
 
 -- so a payload of a file has no more cells than the table has room for
-pub few-cells : (n : Netlist) → length (netlist_payload n) ≤ 32765 → length n.cells ≤ most_listed
+pub few_cells : (n : Netlist) → length (netlist_payload n) ≤ 32765 → length n.cells ≤ most_listed
 unfolding netlist_payload
-few-cells n h =
+few_cells n h =
     let declared = all_bytes_of declaration_bytes n.declarations in
     let celled = all_bytes_of cell_bytes n.cells in
     let driven = all_bytes_of drive_bytes n.drives in
-    omega (arith, cells-bytes-least n.cells, length-append (declared ++ celled) driven, length-append declared celled)
+    omega (arith, cells_bytes_least n.cells, length-append (declared ++ celled) driven, length-append declared celled)

@@ -16,10 +16,10 @@ use Rattle.tagged.specs.declared.declarations.VariableTable.{VariableTable}
 use Rattle.tagged.specs.declared.answers.Answer.{Answer}
 use Rattle.tagged.specs.declared.answers.Rule.{Rule}
 use Rattle.tagged.specs.declared.fields.Step.TheVariants as Step
-use Rattle.tagged.proofs.FileLaws.{file-fits}
-use Rattle.tagged.proofs.LowerLaws.{refusal-same}
-use Rattle.tagged.proofs.DeclarationRules.{declared-only}
-use Rattle.tagged.proofs.TableLaws.{mark_of, told-widths, told-marks, marks-long}
+use Rattle.tagged.proofs.FileLaws.{file_fits}
+use Rattle.tagged.proofs.LowerLaws.{refusal_same}
+use Rattle.tagged.proofs.DeclarationRules.{declared_only}
+use Rattle.tagged.proofs.TableLaws.{mark_of, told_widths, told_marks, marks_long}
 use Rattle.netlist.specs.Lists.{Netlist}
 use Rattle.netlist.specs.Form.{cell_bytes, drive_bytes, cells_step, netlist_form}
 use Rattle.netlist.specs.Reading.{cells_at, drives_at, lists_in, netlist_in}
@@ -27,101 +27,101 @@ use Rattle.netlist.specs.Rules.{registers_from, cells_base, drives_base}
 use Rattle.netlist.specs.Answer.{netlist_rules}
 use Rattle.netlist.specs.WalkAnswers.{cells_end, parts_answer, declaring, rest_answer, KnownVariables, most_listed}
 use Rattle.netlist.proofs.NetlistBytes.{PayloadRead, written_read}
-use Rattle.netlist.proofs.RuleLaws.{few-cells}
-use Rattle.netlist.proofs.RuleWalks.{front-known}
+use Rattle.netlist.proofs.RuleLaws.{few_cells}
+use Rattle.netlist.proofs.RuleWalks.{front_known}
 
 -- the payload of the file
 module _ (file : List ℕ) (bytes : AllBytes file) (accepted : file_answer longest_netlist file ≡ Answer.Accepted) (formed : netlist_form file ≡ Step.Past (length file))
     (payload : List ℕ) (part : payload ≡ drop 3 file) where
-  pub payload-long : length payload ≤ 32765
-  payload-long = let fits = file-fits longest_netlist file accepted in omega (arith, ap length part, length-drop 3 file, fits.short)
+  pub payload_long : length payload ≤ 32765
+  payload_long = let fits = file_fits longest_netlist file accepted in omega (arith, ap length part, length-drop 3 file, fits.short)
 
   read : PayloadRead 3 payload
   read = subst (λ (l : List ℕ). PayloadRead 3 l) (sym part) (written_read file (length file) bytes accepted formed).payload
 
-  netlist-lists : netlist_in file ≡ lists_in payload
-  netlist-lists = ap lists_in (sym part)
+  netlist_lists : netlist_in file ≡ lists_in payload
+  netlist_lists = ap lists_in (sym part)
 
-  netlist-declarations : (netlist_in file).declarations ≡ declarations_in payload
+  netlist_declarations : (netlist_in file).declarations ≡ declarations_in payload
   unfolding lists_in
-  netlist-declarations = ap declarations_in (sym part)
+  netlist_declarations = ap declarations_in (sym part)
 
-  declared-place : (rule : Rule) → first_broken (declaration_breaks rule) [] (declarations_at 3 payload) ≡ declaration_broken rule 3 (netlist_in file).declarations
-  declared-place rule =
-      ap (first_broken (declaration_breaks rule) []) read.declarations-placed ∙ ap (λ (n : Netlist). declaration_broken rule 3 n.declarations) (sym netlist-lists)
+  declared_place : (rule : Rule) → first_broken (declaration_breaks rule) [] (declarations_at 3 payload) ≡ declaration_broken rule 3 (netlist_in file).declarations
+  declared_place rule =
+      ap (first_broken (declaration_breaks rule) []) read.declarations_placed ∙ ap (λ (n : Netlist). declaration_broken rule 3 n.declarations) (sym netlist_lists)
 
   -- what the declarations are refused for
-  pub declared-placed : {answer : Answer} → answer ≡ declarations_answer 3 payload →
+  pub declared_placed : {answer : Answer} → answer ≡ declarations_answer 3 payload →
       answer ≡ first_refusal (λ rule. declaration_broken rule 3 (netlist_in file).declarations) netlist_rules
   unfolding number_of
-  declared-placed e =
-      e ∙ sym (declared-only (Rule.Reference ∷ Rule.Widths ∷ Rule.BitNumber ∷ Rule.Cells ∷ []) refl (declarations_at 3 payload))
-      ∙ refusal-same _ _ declared-place netlist_rules
+  declared_placed e =
+      e ∙ sym (declared_only (Rule.Reference ∷ Rule.Widths ∷ Rule.BitNumber ∷ Rule.Cells ∷ []) refl (declarations_at 3 payload))
+      ∙ refusal_same _ _ declared_place netlist_rules
 
   -- what a table of the declarations tells of the first 64
   module _ {table : VariableTable} (made : table ≡ variable_table (declarations_in payload)) where
-    count-is : table.count ≡ length (declarations_in payload)
+    count_is : table.count ≡ length (declarations_in payload)
     unfolding variable_table
-    count-is = ap (λ (t : VariableTable). t.count) made
+    count_is = ap (λ (t : VariableTable). t.count) made
 
-    pub first-known : {variables marks numbers : List ℕ} → variables ≡ take table.count table.widths → marks ≡ take table.count table.registers →
+    pub first_known : {variables marks numbers : List ℕ} → variables ≡ take table.count table.widths → marks ≡ take table.count table.registers →
         ((ds : List Declaration) → map mark_of ds ≡ marks → numbers ≡ registers_from 0 ds) →
         KnownVariables (take most_variables (netlist_in file).declarations) variables numbers
-    first-known widths marks numbers = record {
+    first_known widths marks numbers = record {
       widths =
-          ap (λ (ds : List Declaration). map width_of (take most_variables ds)) netlist-declarations
-          ∙ front-known width_of most_variables (declarations_in payload) count-is (told-widths (declarations_in payload) table made) ∙ sym widths;
+          ap (λ (ds : List Declaration). map width_of (take most_variables ds)) netlist_declarations
+          ∙ front_known width_of most_variables (declarations_in payload) count_is (told_widths (declarations_in payload) table made) ∙ sym widths;
       numbers =
-          ap (λ (ds : List Declaration). registers_from 0 (take most_variables ds)) netlist-declarations
+          ap (λ (ds : List Declaration). registers_from 0 (take most_variables ds)) netlist_declarations
           ∙ sym (numbers (take most_variables (declarations_in payload))
-          (front-known mark_of most_variables (declarations_in payload) count-is (told-marks (declarations_in payload) table made) ∙ sym marks));
+          (front_known mark_of most_variables (declarations_in payload) count_is (told_marks (declarations_in payload) table made) ∙ sym marks));
     }
 
-    pub first-few : {marks : List ℕ} → marks ≡ take table.count table.registers → length marks ≤ most_variables
-    first-few marks = omega (arith, ap length marks, length-take table.count table.registers, marks-long (declarations_in payload) table made)
+    pub first_few : {marks : List ℕ} → marks ≡ take table.count table.registers → length marks ≤ most_variables
+    first_few marks = omega (arith, ap length marks, length-take table.count table.registers, marks_long (declarations_in payload) table made)
 
   -- what follows the declarations
   module _ (taken : ℕ) (count : taken ≡ passed_bytes (declarations_step 0 0 payload)) (after : List ℕ) (rest : after ≡ drop taken payload) where
     after_is : after ≡ after_declarations payload
     after_is = rest ∙ ap (λ (k : ℕ). drop k payload) count
 
-    pub taken-few : taken ≤ 32765
-    taken-few = omega (arith, count, read.declared-within, payload-long)
+    pub taken_few : taken ≤ 32765
+    taken_few = omega (arith, count, read.declared_within, payload_long)
 
-    pub after-asked : (3 + taken + length after ≤ 2 ^ 40) × (cells_step 0 0 after ≡ Step.Past (cells_end after))
+    pub after_asked : (3 + taken + length after ≤ 2 ^ 40) × (cells_step 0 0 after ≡ Step.Past (cells_end after))
         × (length (unplaced (cells_at 0 after)) ≤ most_listed)
     unfolding lists_in
-    after-asked = (
-      omega (arith, taken-few, payload-long, ap length rest, length-drop taken payload),
+    after_asked = (
+      omega (arith, taken_few, payload_long, ap length rest, length-drop taken payload),
       subst (λ (l : List ℕ). cells_step 0 0 l ≡ Step.Past (cells_end l)) (sym after_is) read.celled,
       subst (λ (l : List ℕ). length (unplaced (cells_at 0 l)) ≤ most_listed) (sym after_is)
-          (few-cells (lists_in payload) (omega (arith, ap length read.written, payload-long))),
+          (few_cells (lists_in payload) (omega (arith, ap length read.written, payload_long))),
     )
 
-    pub netlist-cells : (netlist_in file).cells ≡ unplaced (cells_at 0 after)
+    pub netlist_cells : (netlist_in file).cells ≡ unplaced (cells_at 0 after)
     unfolding lists_in
-    netlist-cells = ap (λ (l : List ℕ). (lists_in l).cells) (sym part) ∙ ap (λ (l : List ℕ). unplaced (cells_at 0 l)) (sym after_is)
+    netlist_cells = ap (λ (l : List ℕ). (lists_in l).cells) (sym part) ∙ ap (λ (l : List ℕ). unplaced (cells_at 0 l)) (sym after_is)
 
-    pub netlist-drives : (netlist_in file).drives ≡ unplaced (drives_at 0 (drop (cells_end after) after))
+    pub netlist_drives : (netlist_in file).drives ≡ unplaced (drives_at 0 (drop (cells_end after) after))
     unfolding lists_in
-    netlist-drives = ap (λ (l : List ℕ). (lists_in l).drives) (sym part) ∙ ap (λ (l : List ℕ). unplaced (drives_at 0 (drop (cells_end l) l)))
+    netlist_drives = ap (λ (l : List ℕ). (lists_in l).drives) (sym part) ∙ ap (λ (l : List ℕ). unplaced (drives_at 0 (drop (cells_end l) l)))
         (sym after_is)
 
-    cells-place : cells_at (3 + taken) after ≡ placed_by cell_bytes (cells_base 3 (netlist_in file)) (netlist_in file).cells
-    cells-place =
-        ap₂ cells_at (ap (λ (k : ℕ). 3 + k) count ∙ sym read.declared-bytes) after_is ∙ read.cells-placed
-        ∙ ap (λ (n : Netlist). placed_by cell_bytes (cells_base 3 n) n.cells) (sym netlist-lists)
+    cells_place : cells_at (3 + taken) after ≡ placed_by cell_bytes (cells_base 3 (netlist_in file)) (netlist_in file).cells
+    cells_place =
+        ap₂ cells_at (ap (λ (k : ℕ). 3 + k) count ∙ sym read.declared_bytes) after_is ∙ read.cells_placed
+        ∙ ap (λ (n : Netlist). placed_by cell_bytes (cells_base 3 n) n.cells) (sym netlist_lists)
 
-    drives-place : drives_at (3 + taken + cells_end after) (drop (cells_end after) after)
+    drives_place : drives_at (3 + taken + cells_end after) (drop (cells_end after) after)
         ≡ placed_by drive_bytes (drives_base 3 (netlist_in file)) (netlist_in file).drives
-    drives-place =
+    drives_place =
         ap₂ (λ (b : ℕ) (l : List ℕ). drives_at (b + cells_end l) (drop (cells_end l) l))
-        (ap (λ (k : ℕ). 3 + k) count ∙ sym read.declared-bytes) after_is
-        ∙ ap (λ (b : ℕ). drives_at b (drop (cells_end (after_declarations payload)) (after_declarations payload))) (sym read.celled-bytes)
-        ∙ read.drives-placed ∙ ap (λ (n : Netlist). placed_by drive_bytes (drives_base 3 n) n.drives) (sym netlist-lists)
+        (ap (λ (k : ℕ). 3 + k) count ∙ sym read.declared_bytes) after_is
+        ∙ ap (λ (b : ℕ). drives_at b (drop (cells_end (after_declarations payload)) (after_declarations payload))) (sym read.celled_bytes)
+        ∙ read.drives_placed ∙ ap (λ (n : Netlist). placed_by drive_bytes (drives_base 3 n) n.drives) (sym netlist_lists)
 
     -- what the rest is refused for, if these are the declarations
-    pub rest-placed : (ds : List Declaration) {answer : Answer} →
+    pub rest_placed : (ds : List Declaration) {answer : Answer} →
         answer ≡ parts_answer (3 + taken) after (declaring ds (netlist_in file)) → answer ≡ rest_answer 3 (netlist_in file) ds
     unfolding parts_answer rest_answer
-    rest-placed ds e = rw (cells-place, drives-place) at e
+    rest_placed ds e = rw (cells_place, drives_place) at e

@@ -8,23 +8,23 @@ use Rattle.netlist.specs.declared.Drive.{Drive}
 use Rattle.netlist.specs.Numbers.{read_number, cell_number, cell_numbers, driven_numbers}
 
 -- the numbers of the cells so far, and one more
-pub numbers-turn : {whole : List ℕ} (row values : List ℕ) (k : ℕ) (l : List Cell) (c : Cell) (after : List Cell) → l ≡ c ∷ after →
+pub numbers_turn : {whole : List ℕ} (row values : List ℕ) (k : ℕ) (l : List Cell) (c : Cell) (after : List Cell) → l ≡ c ∷ after →
     cell_numbers row values k l ≡ whole → (number : ℕ) → number ≡ cell_number row values c → (values' : List ℕ) → values' ≡ set values k number →
     cell_numbers row values' (k + 1) after ≡ whole
 unfolding cell_numbers
-numbers-turn row values k l c after m going number e values' f = rw (f, e) (rw m at going)
+numbers_turn row values k l c after m going number e values' f = rw (f, e) (rw m at going)
 
-pub numbers-done : {whole : List ℕ} (row values : List ℕ) (k : ℕ) (l : List Cell) → l ≡ [] → cell_numbers row values k l ≡ whole → values ≡ whole
+pub numbers_done : {whole : List ℕ} (row values : List ℕ) (k : ℕ) (l : List Cell) → l ≡ [] → cell_numbers row values k l ≡ whole → values ≡ whole
 unfolding cell_numbers
-numbers-done row values k l none going = rw none at going
+numbers_done row values k l none going = rw none at going
 
 -- the next row so far, and what one drive more puts into it
-pub driven-turn : {whole : List ℕ} (row values next : List ℕ) (l : List Drive) (d : Drive) (after : List Drive) → l ≡ d ∷ after →
+pub driven_turn : {whole : List ℕ} (row values next : List ℕ) (l : List Drive) (d : Drive) (after : List Drive) → l ≡ d ∷ after →
     driven_numbers row values next l ≡ whole → (drive : Drive) → drive ≡ d → (number : ℕ) → number ≡ read_number row values drive.operand →
     (next' : List ℕ) → next' ≡ set next drive.variable number → driven_numbers row values next' after ≡ whole
 unfolding driven_numbers
-driven-turn row values next l d after m going drive s number e next' f = rw (f, e, s) (rw m at going)
+driven_turn row values next l d after m going drive s number e next' f = rw (f, e, s) (rw m at going)
 
-pub driven-done : {whole : List ℕ} (row values next : List ℕ) (l : List Drive) → l ≡ [] → driven_numbers row values next l ≡ whole → next ≡ whole
+pub driven_done : {whole : List ℕ} (row values next : List ℕ) (l : List Drive) → l ≡ [] → driven_numbers row values next l ≡ whole → next ≡ whole
 unfolding driven_numbers
-driven-done row values next l none going = rw none at going
+driven_done row values next l none going = rw none at going

@@ -11,7 +11,7 @@ use Rattle.words.specs.declared.OneOperand.TheVariants.{Not, Parity}
 use Rattle.words.specs.declared.TwoOperand.TheVariants.{And, Or, Xor, Add, Equal}
 use Rattle.tagged.specs.Names.{same_name}
 use Rattle.tagged.specs.Declarations.{Declaration, input, register}
-use Rattle.tagged.proofs.NameLaws.{same-equal}
+use Rattle.tagged.proofs.NameLaws.{same_equal}
 use Rattle.netlist.specs.declared.Operand.{Operand}
 use Rattle.netlist.specs.declared.Cell.{Cell}
 use Rattle.netlist.specs.declared.Drive.{Drive}
@@ -38,15 +38,15 @@ abbrev all_agree : List Run → Bool
 all_agree [] = true
 all_agree (r ∷ l) = agrees (netlist_cycle r.netlist r.row) r.gives && all_agree l
 
-agrees-equal : (a b : Outcome (List ℕ)) → agrees a b ≡ true → a ≡ b
-agrees-equal stopped stopped e = refl
-agrees-equal stopped (got b) e = absurd (false≢true e)
-agrees-equal (got a) stopped e = absurd (false≢true e)
-agrees-equal (got a) (got b) e = ap got (same-equal a b e)
+agrees_equal : (a b : Outcome (List ℕ)) → agrees a b ≡ true → a ≡ b
+agrees_equal stopped stopped e = refl
+agrees_equal stopped (got b) e = absurd (false≢true e)
+agrees_equal (got a) stopped e = absurd (false≢true e)
+agrees_equal (got a) (got b) e = ap got (same_equal a b e)
 
 all_hold : (l : List Run) → all_agree l ≡ true → (r : Run) → Memᴰ r l → Holds r
 all_hold (c ∷ l) e r (Memᴰ.head same) =
-    rw same (agrees-equal (netlist_cycle c.netlist c.row) c.gives ((and-eq-true_iff _ (all_agree l)).0 e).0)
+    rw same (agrees_equal (netlist_cycle c.netlist c.row) c.gives ((and-eq-true_iff _ (all_agree l)).0 e).0)
 all_hold (c ∷ l) e r (Memᴰ.tail m) = all_hold l ((and-eq-true_iff (agrees (netlist_cycle c.netlist c.row) c.gives) _).0 e).1 r m
 all_hold [] e r x'' = elim x'' [ ]
 

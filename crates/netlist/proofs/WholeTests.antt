@@ -17,10 +17,10 @@ use Rattle.netlist.specs.Form.{drive_bytes}
 use Rattle.netlist.specs.Rules.{registers_from, not_next, drive_breaks, drives_base, whole_broken}
 use Rattle.netlist.specs.Breaks.{DriveAt, WholeBreaks, without_drive, many_cells}
 use Rattle.tagged.proofs.TestLaws.{neither}
-use Rattle.tagged.proofs.RefusalLaws.{nowhere-passes}
+use Rattle.tagged.proofs.RefusalLaws.{nowhere_passes}
 use Rattle.netlist.proofs.PassedRules.{drive_broken}
-use Rattle.tagged.proofs.PlaceLaws.{member-stands, index-stands}
-use Rattle.netlist.proofs.RegisterLaws.{registers-marked, registers-indexed, registers-rise}
+use Rattle.tagged.proofs.PlaceLaws.{member_stands, index_stands}
+use Rattle.netlist.proofs.RegisterLaws.{registers_marked, registers_indexed, registers_rise}
 
 -- the whole netlist breaks a rule and its test finds it, or neither
 pub data WholeCase (base : ℕ) (n : Netlist) (rule : Rule) : Type 0 where
@@ -45,12 +45,12 @@ is_whole Rule.Buffer = false
 is_whole Rule.Row = false
 
 module _ (base : ℕ) (n : Netlist) where
-  whole-rule : {rule : Rule} → WholeBreaks base n rule → is_whole rule ≡ true
-  whole-rule (without_drive r d) = refl
-  whole-rule (many_cells h) = refl
+  whole_rule : {rule : Rule} → WholeBreaks base n rule → is_whole rule ≡ true
+  whole_rule (without_drive r d) = refl
+  whole_rule (many_cells h) = refl
 
-  many-cells : WholeBreaks base n Rule.Cells → most_cells < length n.cells
-  many-cells (many_cells h) = h
+  many_cells_lem : WholeBreaks base n Rule.Cells → most_cells < length n.cells
+  many_cells_lem (many_cells h) = h
 
   abbrev registers : List ℕ
   registers = registers_from 0 n.declarations
@@ -60,25 +60,25 @@ module _ (base : ℕ) (n : Netlist) where
     pub named : d.variable ≡ get_or registers (length before) 0
 
   module _ (pass : drive_broken Rule.Reference base n ≡ Found.Nowhere) where
-    names-next : {before : List Drive} {p : ℕ} {d : Drive} → DriveAt base n before p d → NamesNext before d
+    names_next : {before : List Drive} {p : ℕ} {d : Drive} → DriveAt base n before p d → NamesNext before d
     unfolding drive_breaks not_next
-    names-next {before} {p} {d} s =
-        let e = nowhere-passes (drive_breaks Rule.Reference n.declarations n.cells) [] s pass in
+    names_next {before} {p} {d} s =
+        let e = nowhere_passes (drive_breaks Rule.Reference n.declarations n.cells) [] s pass in
         let f = (neither (not_next n.declarations before d) _ e).0 in
         let g = neither (leb (length registers) (length before)) _ f in
         record { within = leb-false (length registers) (length before) g.0; named = eqb-true d.variable (get_or registers (length before) 0) (not-false _ g.1) }
 
     -- fewer drives than registers: the register after those that are driven has none
-    fewer-without : length n.drives < length registers → WholeBreaks base n Rule.Reference
-    fewer-without h =
-        let r = registers-marked 0 n.declarations (length n.drives) h in
+    fewer_without : length n.drives < length registers → WholeBreaks base n Rule.Reference
+    fewer_without h =
+        let r = registers_marked 0 n.declarations (length n.drives) h in
         without_drive {v = r.number} r.marked (λ d m e. go d r.number r.counted m e)
       where
         go : (d : Drive) (v : ℕ) → get_or registers (length n.drives) 0 ≡ 0 + v → Memᴰ d n.drives → d.variable ≡ v → ⊥
         go d v c m e =
-            let s = member-stands drive_bytes (drives_base base n) m in
-            let t = names-next s.stands in
-            let less = registers-rise 0 n.declarations (length s.before) (length n.drives) s.within h in
+            let s = member_stands drive_bytes (drives_base base n) m in
+            let t = names_next s.stands in
+            let less = registers_rise 0 n.declarations (length s.before) (length n.drives) s.within h in
             omega (arith, t.named, less)
 
     -- a register without a drive: there are fewer drives
@@ -88,42 +88,42 @@ module _ (base : ℕ) (n : Netlist) where
         go : (t : Bool) → ltb (length n.drives) (length registers) ≡ t → length n.drives < length registers
         go true h = ltb-true (length n.drives) (length registers) h
         go false h =
-            let i = registers-indexed 0 n.declarations v marked in
+            let i = registers_indexed 0 n.declarations v marked in
             let there : i.index < length n.drives = omega (arith, i.within, ltb-false (length n.drives) (length registers) h) in
-            let s = index-stands drive_bytes (drives_base base n) n.drives i.index there in
-            let t = names-next s.stands in
+            let s = index_stands drive_bytes (drives_base base n) n.drives i.index there in
+            let t = names_next s.stands in
             let at : get_or registers (length s.before) 0 ≡ 0 + v = rw s.index i.found in
             absurd (none s.what s.among (t.named ∙ at ∙ omega arith))
 
-    drives-case : WholeCase base n Rule.Reference
+    drives_case : WholeCase base n Rule.Reference
     unfolding whole_broken
-    drives-case = go (ltb (length n.drives) (length registers)) refl
+    drives_case = go (ltb (length n.drives) (length registers)) refl
       where
         go : (t : Bool) → ltb (length n.drives) (length registers) ≡ t → WholeCase base n Rule.Reference
-        go true h = wholly (rw h) (fewer-without (ltb-true (length n.drives) (length registers) h))
+        go true h = wholly (rw h) (fewer_without (ltb-true (length n.drives) (length registers) h))
         go false h = not_at_all (rw h) (λ w. omega (arith, ltb-false (length n.drives) (length registers) h, without_fewer w))
 
-  cells-case : WholeCase base n Rule.Cells
+  cells_case : WholeCase base n Rule.Cells
   unfolding whole_broken
-  cells-case = go (ltb most_cells (length n.cells)) refl
+  cells_case = go (ltb most_cells (length n.cells)) refl
     where
       go : (t : Bool) → ltb most_cells (length n.cells) ≡ t → WholeCase base n Rule.Cells
       go true h = wholly (rw h) (many_cells (ltb-true most_cells (length n.cells) h))
-      go false h = not_at_all (rw h) (λ w. omega (arith, ltb-false most_cells (length n.cells) h, many-cells w))
+      go false h = not_at_all (rw h) (λ w. omega (arith, ltb-false most_cells (length n.cells) h, many_cells_lem w))
 
-  pub whole-case : (rule : Rule) → drive_broken rule base n ≡ Found.Nowhere → WholeCase base n rule
+  pub whole_case : (rule : Rule) → drive_broken rule base n ≡ Found.Nowhere → WholeCase base n rule
   unfolding whole_broken
-  whole-case Rule.Reference pass = drives-case pass
-  whole-case Rule.Cells pass = cells-case
-  whole-case Rule.FileLength pass = not_at_all refl (λ w. false≢true (whole-rule w))
-  whole-case Rule.Form pass = not_at_all refl (λ w. false≢true (whole-rule w))
-  whole-case Rule.Value pass = not_at_all refl (λ w. false≢true (whole-rule w))
-  whole-case Rule.Name pass = not_at_all refl (λ w. false≢true (whole-rule w))
-  whole-case Rule.Count pass = not_at_all refl (λ w. false≢true (whole-rule w))
-  whole-case Rule.Widths pass = not_at_all refl (λ w. false≢true (whole-rule w))
-  whole-case Rule.BitNumber pass = not_at_all refl (λ w. false≢true (whole-rule w))
-  whole-case Rule.BothKinds pass = not_at_all refl (λ w. false≢true (whole-rule w))
-  whole-case Rule.TwoProcesses pass = not_at_all refl (λ w. false≢true (whole-rule w))
-  whole-case Rule.ReadElsewhere pass = not_at_all refl (λ w. false≢true (whole-rule w))
-  whole-case Rule.Buffer pass = not_at_all refl (λ w. false≢true (whole-rule w))
-  whole-case Rule.Row pass = not_at_all refl (λ w. false≢true (whole-rule w))
+  whole_case Rule.Reference pass = drives_case pass
+  whole_case Rule.Cells pass = cells_case
+  whole_case Rule.FileLength pass = not_at_all refl (λ w. false≢true (whole_rule w))
+  whole_case Rule.Form pass = not_at_all refl (λ w. false≢true (whole_rule w))
+  whole_case Rule.Value pass = not_at_all refl (λ w. false≢true (whole_rule w))
+  whole_case Rule.Name pass = not_at_all refl (λ w. false≢true (whole_rule w))
+  whole_case Rule.Count pass = not_at_all refl (λ w. false≢true (whole_rule w))
+  whole_case Rule.Widths pass = not_at_all refl (λ w. false≢true (whole_rule w))
+  whole_case Rule.BitNumber pass = not_at_all refl (λ w. false≢true (whole_rule w))
+  whole_case Rule.BothKinds pass = not_at_all refl (λ w. false≢true (whole_rule w))
+  whole_case Rule.TwoProcesses pass = not_at_all refl (λ w. false≢true (whole_rule w))
+  whole_case Rule.ReadElsewhere pass = not_at_all refl (λ w. false≢true (whole_rule w))
+  whole_case Rule.Buffer pass = not_at_all refl (λ w. false≢true (whole_rule w))
+  whole_case Rule.Row pass = not_at_all refl (λ w. false≢true (whole_rule w))

@@ -3,9 +3,9 @@
 
 ghost use Rattle.std.specs.Prelude.{◌≡◌, length};
 ghost use Rattle.tagged.specs.Answers.{reply_of, translation_reply, Promise};
-ghost use Rattle.netlist.specs.Run as netlist-run;
+ghost use Rattle.netlist.specs.Run as netlist_run;
 ghost use Rattle.verilog.specs.Answer.{module_answer};
-ghost use Rattle.verilog.specs.Run as module-run;
+ghost use Rattle.verilog.specs.Run as module_run;
 ghost use Rattle.translate.specs.Answer.{translate_answer, translate_buffer};
 
 use tagged::answers::Reply;
@@ -30,8 +30,8 @@ pub extern "C" fn skodderym_translate(file: &[u8], out: &mut [u8]) -> Reply
 // One cycle of a module, from a row into another: refusals 1 to 11 and 14.
 #[unsafe(no_mangle)]
 pub extern "C" fn skodderym_run_module(file: &[u8], row: &[u8], next: &mut [u8]) -> Reply
-    ensures { Promise (reply_of (module-run.run_answer file.now row.now (length next.old)))
-        (module-run.run_leaves file.now row.now next.old) result next.new }
+    ensures { Promise (reply_of (module_run.run_answer file.now row.now (length next.old)))
+        (module_run.run_leaves file.now row.now next.old) result next.new }
 {
     verilog_run::run(file, row, next).reply()
 }
@@ -39,8 +39,8 @@ pub extern "C" fn skodderym_run_module(file: &[u8], row: &[u8], next: &mut [u8])
 // One cycle of a netlist, from a row into another: refusals 1 to 8, 12 and 14.
 #[unsafe(no_mangle)]
 pub extern "C" fn skodderym_run_netlist(file: &[u8], row: &[u8], next: &mut [u8]) -> Reply
-    ensures { Promise (reply_of (netlist-run.run_answer file.now row.now (length next.old)))
-        (netlist-run.run_leaves file.now row.now next.old) result next.new }
+    ensures { Promise (reply_of (netlist_run.run_answer file.now row.now (length next.old)))
+        (netlist_run.run_leaves file.now row.now next.old) result next.new }
 {
     netlist::run(file, row, next).reply()
 }

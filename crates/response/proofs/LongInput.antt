@@ -22,9 +22,9 @@ unfolding translate_answer module_answer file_answer
 too_long_lem file h room = rw (lt-leb (length file) longest_module h, and-false (leb 3 (length file)))
 
 -- THE LONGER INPUT
-pub first-bytes-decide : (file : List ℕ) → program_text (take 16385 file) ≡ program_text file
+pub first_bytes_decide : (file : List ℕ) → program_text (take 16385 file) ≡ program_text file
 unfolding program_text
-first-bytes-decide file = go (leb (length file) 16385) refl
+first_bytes_decide file = go (leb (length file) 16385) refl
   where
     go : (short : Bool) → leb (length file) 16385 ≡ short → program_text (take 16385 file) ≡ program_text file
     go true e = ap program_text (take_all 16385 file (leb-true (length file) 16385 e))

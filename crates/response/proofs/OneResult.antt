@@ -7,6 +7,6 @@ use Rattle.tagged.specs.Answers.{Promise}
 use Rattle.tagged.proofs.AnswerLaws.{coincide}
 use Rattle.response.specs.Text.{program_text, program_buffer}
 
-pub respond-once : (file out : List ℕ) {a b : ℕ} {left held : List ℕ} → Promise (length (program_text file)) (program_buffer file out) a left →
+pub respond_once : (file out : List ℕ) {a b : ℕ} {left held : List ℕ} → Promise (length (program_text file)) (program_buffer file out) a left →
     Promise (length (program_text file)) (program_buffer file out) b held → (a ≡ b) × (left ≡ held)
-respond-once file out p q = coincide p q
+respond_once file out p q = coincide p q

@@ -4,13 +4,13 @@ use lib.Seq.{take-append_seam}
 use Rattle.std.specs.declared.option.Option.{Option}
 use Rattle.std.specs.Io.KnownBytes.{Appends}
 use Rattle.response.specs.Text.{program_text}
-use Rattle.response.proofs.LongInput.{first-bytes-decide}
+use Rattle.response.proofs.LongInput.{first_bytes_decide}
 
 -- the text of a file that is the front of known bytes is the text of all of them
 pub all_written : {T E : Type 0} (r : Result T E) (known old new : Option (List ℕ)) (text file : List ℕ) → OnOk r (Appends old new text) → text ≡ program_text file →
     IfSome known (λ bytes. file ≡ take 16385 bytes) → OnOk r (IfSome known (λ bytes. Appends old new (program_text bytes)))
 all_written (Ok x) None old new text file p q h = h
-all_written (Ok x) (Some bytes) old new text file p q h = subst (Appends old new) (q ∙ ap program_text h ∙ first-bytes-decide bytes) p
+all_written (Ok x) (Some bytes) old new text file p q h = subst (Appends old new) (q ∙ ap program_text h ∙ first_bytes_decide bytes) p
 all_written (Err e) known old new text file p q h = p
 
 -- the front of a buffer that begins with a text, as long as the text

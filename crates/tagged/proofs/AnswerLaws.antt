@@ -10,51 +10,51 @@ use Rattle.tagged.specs.declared.answers.Answer.{Answer}
 use Rattle.tagged.specs.declared.answers.Translation.{Translation}
 
 -- a rule is that of its number
-pub rule-back : (r : Rule) → rule_of (number_of r) ≡ r
+pub rule_back : (r : Rule) → rule_of (number_of r) ≡ r
 unfolding rule_of number_of
-rule-back Rule.FileLength = refl
-rule-back Rule.Form = refl
-rule-back Rule.Value = refl
-rule-back Rule.Name = refl
-rule-back Rule.Count = refl
-rule-back Rule.Reference = refl
-rule-back Rule.Widths = refl
-rule-back Rule.BitNumber = refl
-rule-back Rule.BothKinds = refl
-rule-back Rule.TwoProcesses = refl
-rule-back Rule.ReadElsewhere = refl
-rule-back Rule.Cells = refl
-rule-back Rule.Buffer = refl
-rule-back Rule.Row = refl
+rule_back Rule.FileLength = refl
+rule_back Rule.Form = refl
+rule_back Rule.Value = refl
+rule_back Rule.Name = refl
+rule_back Rule.Count = refl
+rule_back Rule.Reference = refl
+rule_back Rule.Widths = refl
+rule_back Rule.BitNumber = refl
+rule_back Rule.BothKinds = refl
+rule_back Rule.TwoProcesses = refl
+rule_back Rule.ReadElsewhere = refl
+rule_back Rule.Cells = refl
+rule_back Rule.Buffer = refl
+rule_back Rule.Row = refl
 
 -- no rule has the number of acceptance
-number-some : (r : Rule) → eqb (number_of r) 0 ≡ false
+number_some : (r : Rule) → eqb (number_of r) 0 ≡ false
 unfolding number_of
-number-some Rule.FileLength = refl
-number-some Rule.Form = refl
-number-some Rule.Value = refl
-number-some Rule.Name = refl
-number-some Rule.Count = refl
-number-some Rule.Reference = refl
-number-some Rule.Widths = refl
-number-some Rule.BitNumber = refl
-number-some Rule.BothKinds = refl
-number-some Rule.TwoProcesses = refl
-number-some Rule.ReadElsewhere = refl
-number-some Rule.Cells = refl
-number-some Rule.Buffer = refl
-number-some Rule.Row = refl
+number_some Rule.FileLength = refl
+number_some Rule.Form = refl
+number_some Rule.Value = refl
+number_some Rule.Name = refl
+number_some Rule.Count = refl
+number_some Rule.Reference = refl
+number_some Rule.Widths = refl
+number_some Rule.BitNumber = refl
+number_some Rule.BothKinds = refl
+number_some Rule.TwoProcesses = refl
+number_some Rule.ReadElsewhere = refl
+number_some Rule.Cells = refl
+number_some Rule.Buffer = refl
+number_some Rule.Row = refl
 
 -- what a reply stands for is the answer that it was made of
 pub answer_back : (a : Answer) → answer_of (reply_of a) ≡ a
 unfolding answer_of reply_of
 answer_back Answer.Accepted = refl
-answer_back (Answer.Refused rule place) = rw (number-some rule, rule-back rule)
+answer_back (Answer.Refused rule place) = rw (number_some rule, rule_back rule)
 
-pub translation-back : (t : Translation) → translation_of (translation_reply t) ≡ t
+pub translation_back : (t : Translation) → translation_of (translation_reply t) ≡ t
 unfolding translation_of translation_reply
-translation-back (Translation.Written length cells) = refl
-translation-back (Translation.Refused rule place) = rw (number-some rule, rule-back rule)
+translation_back (Translation.Written length cells) = refl
+translation_back (Translation.Refused rule place) = rw (number_some rule, rule_back rule)
 
 -- an answer that a contract equates with a definition is the only one that it admits
 pub one_answer_lem : {A : Type 0} {wanted a b : A} → a ≡ wanted → b ≡ wanted → a ≡ b

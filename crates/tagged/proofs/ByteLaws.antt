@@ -19,34 +19,34 @@ rest l k = take_all (length l - k) (drop k l) (omega (arith, lib.ListN.length-dr
 pub front : (l : List ℕ) (k : ℕ) → get_or (drop k l) 0 0 ≡ get_or l k 0
 front l k = rw (get_or-drop, add-zero)
 
-pub two-lt : (a b : ℕ) → a < 256 → b < 256 → number_of_two a b < 65536
+pub two_lt : (a b : ℕ) → a < 256 → b < 256 → number_of_two a b < 65536
 unfolding number_of_two
-two-lt a b h k = omega arith
+two_lt a b h k = omega arith
 
-pub four-lt : (a b c d : ℕ) → a < 256 → b < 256 → c < 256 → d < 256 → number_of_four a b c d < 2 ^ 32
+pub four_lt : (a b c d : ℕ) → a < 256 → b < 256 → c < 256 → d < 256 → number_of_four a b c d < 2 ^ 32
 unfolding number_of_four
-four-lt a b c d ha hb hc hd = omega arith
+four_lt a b c d ha hb hc hd = omega arith
 
 -- the bytes of a number give the number
 pub two_back : (n : ℕ) → n < 65536 → number_of_two (n / 256 % 256) (n % 256) ≡ n
 unfolding number_of_two
 two_back n h = omega arith
 
-pub four-back : (n : ℕ) → n < 2 ^ 32 → number_of_four (n / 256 / 256 / 256 % 256) (n / 256 / 256 % 256) (n / 256 % 256) (n % 256) ≡ n
+pub four_back : (n : ℕ) → n < 2 ^ 32 → number_of_four (n / 256 / 256 / 256 % 256) (n / 256 / 256 % 256) (n / 256 % 256) (n % 256) ≡ n
 unfolding number_of_four
-four-back n h = omega arith
+four_back n h = omega arith
 
 -- the number of some bytes has those bytes
 high : (a b : ℕ) → a < 256 → b < 256 → (a * 256 + b) / 256 % 256 ≡ a
 high a b h k = rw (digits_div a k) (omega arith)
 
-pub bytes-two : (a b : ℕ) → a < 256 → b < 256 → two_bytes (number_of_two a b) ≡ a ∷ b ∷ []
+pub bytes_two : (a b : ℕ) → a < 256 → b < 256 → two_bytes (number_of_two a b) ≡ a ∷ b ∷ []
 unfolding two_bytes number_of_two
-bytes-two a b h k = rw (high a b h k, digits_mod a k)
+bytes_two a b h k = rw (high a b h k, digits_mod a k)
 
-pub bytes-four : (a b c d : ℕ) → a < 256 → b < 256 → c < 256 → d < 256 → four_bytes (number_of_four a b c d) ≡ a ∷ b ∷ c ∷ d ∷ []
+pub bytes_four : (a b c d : ℕ) → a < 256 → b < 256 → c < 256 → d < 256 → four_bytes (number_of_four a b c d) ≡ a ∷ b ∷ c ∷ d ∷ []
 unfolding four_bytes number_of_four
-bytes-four a b c d ha hb hc hd =
+bytes_four a b c d ha hb hc hd =
     let low : (((a * 256 + b) * 256 + c) * 256 + d) % 256 ≡ d = digits_mod _ hd in
     let upper : (((a * 256 + b) * 256 + c) * 256 + d) / 256 ≡ (a * 256 + b) * 256 + c = digits_div _ hd in
     let third : ((a * 256 + b) * 256 + c) % 256 ≡ c = digits_mod _ hc in
@@ -56,9 +56,9 @@ bytes-four a b c d ha hb hc hd =
     rw (low, upper, third, half, second, first)
 
 -- four bytes in front of a list are read back
-pub four-front : (n : ℕ) (l : List ℕ) → n < 2 ^ 32 → four_of (four_bytes n ++ l) ≡ n
+pub four_front : (n : ℕ) (l : List ℕ) → n < 2 ^ 32 → four_of (four_bytes n ++ l) ≡ n
 unfolding four_of four_bytes
-four-front n l h = four-back n h
+four_front n l h = four_back n h
 
 -- parts of a list of bytes
 pub bytes_drop : (k : ℕ) (l : List ℕ) → AllBytes l → AllBytes (drop k l)

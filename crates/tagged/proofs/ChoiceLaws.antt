@@ -10,8 +10,8 @@ module _ {A : Type 0} (test : Bool) (first second : A) {result : A} (e : cond te
       go true p = refl
       go false p = absurd (other p)
 
-  pub second-taken : (first ≡ result → ⊥) → test ≡ false
-  second-taken other = go test e
+  pub second_taken : (first ≡ result → ⊥) → test ≡ false
+  second_taken other = go test e
     where
       go : (b : Bool) → cond b first second ≡ result → b ≡ false
       go true p = absurd (other p)

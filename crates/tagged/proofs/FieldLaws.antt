@@ -36,20 +36,20 @@ module _ (base owner : ℕ) (l : List ℕ) where
   unfolding open_of
   open_none h = rw (eq-eqb _ _ h)
 
-  pub open-cut : (length l ≡ 0 → ⊥) → length l < 3 → open_of base owner l ≡ Opened.Refused base
+  pub open_cut : (length l ≡ 0 → ⊥) → length l < 3 → open_of base owner l ≡ Opened.Refused base
   unfolding open_of
-  open-cut some h = rw (ne_eqb _ _ some, lt-ltb _ _ h)
+  open_cut some h = rw (ne_eqb _ _ some, lt-ltb _ _ h)
 
-  pub open-beyond : {n : ℕ} → n ≡ size_of l → 3 ≤ length l → length l < n + 3 → open_of base owner l ≡ Opened.Refused base
+  pub open_beyond : {n : ℕ} → n ≡ size_of l → 3 ≤ length l → length l < n + 3 → open_of base owner l ≡ Opened.Refused base
   unfolding open_of
-  open-beyond {n} e h k =
+  open_beyond {n} e h k =
       let some : length l ≡ 0 → ⊥ = λ z. omega arith in
       let over : length l - 3 < size_of l = omega (arith, e) in
       rw (ne_eqb _ _ some, le-ltb _ _ h, lt-leb _ _ over)
 
-  pub open-whole : {s : Sort} {n : ℕ} → open_of base owner l ≡ Opened.Field s n → Whole l s n
+  pub open_whole : {s : Sort} {n : ℕ} → open_of base owner l ≡ Opened.Field s n → Whole l s n
   unfolding open_of
-  open-whole {s} {n} e = go (eqb (length l) 0) (ltb (length l) 3) (leb (size_of l) (length l - 3)) refl refl e
+  open_whole {s} {n} e = go (eqb (length l) 0) (ltb (length l) 3) (leb (size_of l) (length l - 3)) refl refl e
     where
       go : (none cut room : Bool) → ltb (length l) 3 ≡ cut → leb (size_of l) (length l - 3) ≡ room →
           cond none (Opened.Refused owner) (cond cut (Opened.Refused base) (cond room (Opened.Field (sort_of (get_or l 0 0)) (size_of l)) (Opened.Refused base))) ≡ Opened.Field s n
@@ -67,9 +67,9 @@ module _ (base owner : ℕ) (l : List ℕ) where
 
   -- one field
   module _ (o : Opened) (ol : o ≡ open_of base owner l) (body : Body) where
-    pub field-refused : (x : ℕ) → o ≡ Opened.Refused x → Step.Refused x ≡ field_by body base owner l
+    pub field_refused : (x : ℕ) → o ≡ Opened.Refused x → Step.Refused x ≡ field_by body base owner l
     unfolding field_by
-    field-refused x e = rw (← ol, e)
+    field_refused x e = rw (← ol, e)
 
     pub field_past : (s : Sort) (n : ℕ) → o ≡ Opened.Field s n → (w : Judged) → w ≡ body base s (take (n + 3 - 3) (drop 3 l)) →
         (r : Step) → r ≡ passing w (n + 3) → r ≡ field_by body base owner l
@@ -84,56 +84,56 @@ pub record Passed (body : Body) (base : ℕ) (l : List ℕ) (m : ℕ) : Type 0 w
   pub fine : body base sort (take size (drop 3 l)) ≡ Judged.Fine
   pub bytes : m ≡ size + 3
 
-pub field-passed : (body : Body) (base owner : ℕ) (l : List ℕ) (m : ℕ) → field_by body base owner l ≡ Step.Past m → Passed body base l m
+pub field_passed : (body : Body) (base owner : ℕ) (l : List ℕ) (m : ℕ) → field_by body base owner l ≡ Step.Past m → Passed body base l m
 unfolding field_by
-field-passed body base owner l m e = go (open_of base owner l) refl e
+field_passed body base owner l m e = go (open_of base owner l) refl e
   where
     judged : (s : Sort) (n : ℕ) → Whole l s n → (w : Judged) → body base s (take n (drop 3 l)) ≡ w → passing w (n + 3) ≡ Step.Past m → Passed body base l m
     judged s n whole Judged.Fine p q = let z : n + 3 ≡ m = cc in record { sort = s; size = n; whole = whole; fine = p; bytes = sym z }
     judged s n whole (Judged.Refused x) p q = absurd (let z : ◌≡◌ {A = ℕ} 0 1 = cc in omega arith)
 
     go : (o : Opened) → open_of base owner l ≡ o → after_opening o (λ s n. passing (body base s (take n (drop 3 l))) (n + 3)) ≡ Step.Past m → Passed body base l m
-    go (Opened.Field s n) p q = judged s n (open-whole base owner l p) (body base s (take n (drop 3 l))) refl q
+    go (Opened.Field s n) p q = judged s n (open_whole base owner l p) (body base s (take n (drop 3 l))) refl q
     go (Opened.Refused x) p q = absurd (let z : ◌≡◌ {A = ℕ} 0 1 = cc in omega arith)
 
 -- and back: such a field is passed
-pub passed-field : (body : Body) (base owner : ℕ) (l : List ℕ) (m : ℕ) → Passed body base l m → field_by body base owner l ≡ Step.Past m
+pub passed_field : (body : Body) (base owner : ℕ) (l : List ℕ) (m : ℕ) → Passed body base l m → field_by body base owner l ≡ Step.Past m
 unfolding field_by
-passed-field body base owner l m p = rw (whole_open base owner l p.whole, p.fine, p.bytes)
+passed_field body base owner l m p = rw (whole_open base owner l p.whole, p.fine, p.bytes)
 
 -- a field that is passed is at least a header, and lies within the list
-pub past-within : (body : Body) (base owner : ℕ) (l : List ℕ) (r : Step) (m : ℕ) → r ≡ field_by body base owner l → r ≡ Step.Past m → (3 ≤ m) × (m ≤ length l)
-past-within body base owner l r m p q =
-    let f = field-passed body base owner l m (sym p ∙ q) in
+pub past_within : (body : Body) (base owner : ℕ) (l : List ℕ) (r : Step) (m : ℕ) → r ≡ field_by body base owner l → r ≡ Step.Past m → (3 ≤ m) × (m ≤ length l)
+past_within body base owner l r m p q =
+    let f = field_passed body base owner l m (sym p ∙ q) in
     let b = f.bytes in
     let w = f.whole.within in
     (omega arith, omega arith)
 
 -- one field and then more
 module _ (first : Stepper) (next : Judge) (base owner : ℕ) (l : List ℕ) (s : Step) (sf : s ≡ first base owner l) where
-  pub then-refused : (x : ℕ) → s ≡ Step.Refused x → Judged.Refused x ≡ then_by first next base owner l
+  pub then_refused : (x : ℕ) → s ≡ Step.Refused x → Judged.Refused x ≡ then_by first next base owner l
   unfolding then_by
-  then-refused x e = rw (← sf, e)
+  then_refused x e = rw (← sf, e)
 
-  pub then-past : (m : ℕ) → s ≡ Step.Past m → (w : Judged) → w ≡ next (base + m) owner (take (length l - m) (drop m l)) → w ≡ then_by first next base owner l
+  pub then_past : (m : ℕ) → s ≡ Step.Past m → (w : Judged) → w ≡ next (base + m) owner (take (length l - m) (drop m l)) → w ≡ then_by first next base owner l
   unfolding then_by
-  then-past m e w wn = wn ∙ rw (← sf, e, rest)
+  then_past m e w wn = wn ∙ rw (← sf, e, rest)
 
 -- fixed bytes and then more
 module _ (n : ℕ) (next : Judge) (base owner : ℕ) (l : List ℕ) where
-  pub fixed-short : length l < n → Judged.Refused owner ≡ fixed_then n next base owner l
+  pub fixed_short : length l < n → Judged.Refused owner ≡ fixed_then n next base owner l
   unfolding fixed_then
-  fixed-short h = rw (lt-ltb _ _ h)
+  fixed_short h = rw (lt-ltb _ _ h)
 
   pub fixed_then_lem : n ≤ length l → (w : Judged) → w ≡ next (base + n) owner (take (length l - n) (drop n l)) → w ≡ fixed_then n next base owner l
   unfolding fixed_then
   fixed_then_lem h w wn = wn ∙ rw (le-ltb _ _ h, rest)
 
 -- nothing left, or something
-pub ended-fine : (base owner : ℕ) (l : List ℕ) → length l ≡ 0 → Judged.Fine ≡ ended base owner l
+pub ended_fine : (base owner : ℕ) (l : List ℕ) → length l ≡ 0 → Judged.Fine ≡ ended base owner l
 unfolding ended
-ended-fine base owner l e = rw (eq-eqb _ _ e)
+ended_fine base owner l e = rw (eq-eqb _ _ e)
 
-pub ended-over : (base owner : ℕ) (l : List ℕ) → (length l ≡ 0 → ⊥) → Judged.Refused owner ≡ ended base owner l
+pub ended_over : (base owner : ℕ) (l : List ℕ) → (length l ≡ 0 → ⊥) → Judged.Refused owner ≡ ended base owner l
 unfolding ended
-ended-over base owner l n = rw (ne_eqb _ _ n)
+ended_over base owner l n = rw (ne_eqb _ _ n)

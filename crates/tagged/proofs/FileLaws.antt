@@ -13,8 +13,8 @@ use Rattle.tagged.specs.Refusals.{after_form, after_answer}
 use Rattle.tagged.specs.declared.answers.Rule.{Rule}
 use Rattle.tagged.specs.declared.answers.Answer.{Answer}
 use Rattle.tagged.specs.declared.fields.Step.{Step}
-use Rattle.tagged.proofs.FieldLaws.{field-passed}
-use Rattle.tagged.proofs.RefusalLaws.{refused-not-accepted}
+use Rattle.tagged.proofs.FieldLaws.{field_passed}
+use Rattle.tagged.proofs.RefusalLaws.{refused_not_accepted}
 
 -- a file to which refusal 1 does not apply: its length is allowed, and its outer length is the rest of it
 pub record FileFits (longest : ℕ) (file : List ℕ) : Type 0 where
@@ -22,49 +22,49 @@ pub record FileFits (longest : ℕ) (file : List ℕ) : Type 0 where
   pub short : length file ≤ longest
   pub outer : size_of file + 3 ≡ length file
 
-pub file-fits : (longest : ℕ) (file : List ℕ) → file_answer longest file ≡ Answer.Accepted → FileFits longest file
+pub file_fits : (longest : ℕ) (file : List ℕ) → file_answer longest file ≡ Answer.Accepted → FileFits longest file
 unfolding file_answer outer_answer
-file-fits longest file e = go (leb 3 (length file)) refl (leb (length file) longest) refl (outer_fits file) refl e
+file_fits longest file e = go (leb 3 (length file)) refl (leb (length file) longest) refl (outer_fits file) refl e
   where
     go : (a : Bool) → leb 3 (length file) ≡ a → (b : Bool) → leb (length file) longest ≡ b → (c : Bool) → outer_fits file ≡ c →
         cond (a && b) (cond c Answer.Accepted (Answer.Refused Rule.FileLength 0)) (Answer.Refused Rule.FileLength 0) ≡ Answer.Accepted → FileFits longest file
     go true p true q true r e = record { header = leb-true 3 (length file) p; short = leb-true (length file) longest q; outer = eqb-true (size_of file + 3) (length file) r }
-    go true p true q false r e = refused-not-accepted e
-    go true p false q c r e = refused-not-accepted e
-    go false p b q c r e = refused-not-accepted e
+    go true p true q false r e = refused_not_accepted e
+    go true p false q c r e = refused_not_accepted e
+    go false p b q c r e = refused_not_accepted e
 
-pub fits-file : (longest : ℕ) (file : List ℕ) → FileFits longest file → file_answer longest file ≡ Answer.Accepted
+pub fits_file : (longest : ℕ) (file : List ℕ) → FileFits longest file → file_answer longest file ≡ Answer.Accepted
 unfolding file_answer outer_answer
-fits-file longest file f = rw (le-leb 3 (length file) f.header, le-leb (length file) longest f.short, eq-eqb (size_of file + 3) (length file) f.outer)
+fits_file longest file f = rw (le-leb 3 (length file) f.header, le-leb (length file) longest f.short, eq-eqb (size_of file + 3) (length file) f.outer)
 
 -- accepted after a form is accepted, and without a fault, and accepted
-pub accepted-parts : (a : Answer) (s : Step) (other : Answer) → after_answer a (after_form s other) ≡ Answer.Accepted →
+pub accepted_parts : (a : Answer) (s : Step) (other : Answer) → after_answer a (after_form s other) ≡ Answer.Accepted →
     (m : ℕ) × (a ≡ Answer.Accepted) × (s ≡ Step.Past m) × (other ≡ Answer.Accepted)
-accepted-parts Answer.Accepted (Step.Past m) other e = (m, refl, refl, e)
-accepted-parts Answer.Accepted (Step.Refused place) other e = refused-not-accepted e
-accepted-parts (Answer.Refused rule place) s other e = refused-not-accepted e
+accepted_parts Answer.Accepted (Step.Past m) other e = (m, refl, refl, e)
+accepted_parts Answer.Accepted (Step.Refused place) other e = refused_not_accepted e
+accepted_parts (Answer.Refused rule place) s other e = refused_not_accepted e
 
 -- a file whose length was answered: its form, where it has no fault, ends where the file does
 module _ (longest : ℕ) (file : List ℕ) (fits : Answer) (lengths : fits ≡ file_answer longest file) where
-  pub file-long : fits ≡ Answer.Accepted → length file ≤ longest
-  file-long e = (file-fits longest file (sym lengths ∙ e)).short
+  pub file_long : fits ≡ Answer.Accepted → length file ≤ longest
+  file_long e = (file_fits longest file (sym lengths ∙ e)).short
 
-  pub form-whole : fits ≡ Answer.Accepted → (body : Body) (m : ℕ) → field_by body 0 0 file ≡ Step.Past m → field_by body 0 0 file ≡ Step.Past (length file)
-  form-whole e body m form =
-      let whole = file-fits longest file (sym lengths ∙ e) in
-      let passed = field-passed body 0 0 file m form in
+  pub form_whole : fits ≡ Answer.Accepted → (body : Body) (m : ℕ) → field_by body 0 0 file ≡ Step.Past m → field_by body 0 0 file ≡ Step.Past (length file)
+  form_whole e body m form =
+      let whole = file_fits longest file (sym lengths ∙ e) in
+      let passed = field_passed body 0 0 file m form in
       let all : m ≡ length file = omega (arith, passed.bytes, passed.whole.size, whole.outer) in
       form ∙ ap Step.Past all
 
   -- the answer of the file, from that of its length, its form, and what is answered after them
   module _ (form : Step) (other : Answer) where
-    pub length-refused : (rule : Rule) (place : ℕ) → fits ≡ Answer.Refused rule place →
+    pub length_refused : (rule : Rule) (place : ℕ) → fits ≡ Answer.Refused rule place →
         Answer.Refused rule place ≡ after_answer (file_answer longest file) (after_form form other)
-    length-refused rule place e = rw (sym lengths ∙ e)
+    length_refused rule place e = rw (sym lengths ∙ e)
 
-    pub form-refused : fits ≡ Answer.Accepted → (place : ℕ) → form ≡ Step.Refused place →
+    pub form_refused : fits ≡ Answer.Accepted → (place : ℕ) → form ≡ Step.Refused place →
         Answer.Refused Rule.Form place ≡ after_answer (file_answer longest file) (after_form form other)
-    form-refused e place f = rw (sym lengths ∙ e, f)
+    form_refused e place f = rw (sym lengths ∙ e, f)
 
-    pub others-answered : fits ≡ Answer.Accepted → (m : ℕ) → form ≡ Step.Past m → other ≡ after_answer (file_answer longest file) (after_form form other)
-    others-answered e m f = rw (sym lengths ∙ e, f)
+    pub others_answered : fits ≡ Answer.Accepted → (m : ℕ) → form ≡ Step.Past m → other ≡ after_answer (file_answer longest file) (after_form form other)
+    others_answered e m f = rw (sym lengths ∙ e, f)

@@ -10,21 +10,21 @@ use Rattle.tagged.specs.Refusals.{first_broken, or_else}
 use Rattle.tagged.specs.declared.answers.Found.{Found}
 
 -- a place, or else none
-pub or-nowhere : (f : Found) → or_else f Found.Nowhere ≡ f
-or-nowhere (Found.At place) = refl
-or-nowhere Found.Nowhere = refl
+pub or_nowhere : (f : Found) → or_else f Found.Nowhere ≡ f
+or_nowhere (Found.At place) = refl
+or_nowhere Found.Nowhere = refl
 
 -- what two lists hold, without places
-pub unplaced-append : {A : Type 0} (a b : List (Placed A)) → unplaced (a ++ b) ≡ unplaced a ++ unplaced b
-unplaced-append [] b = refl
-unplaced-append (x ∷ a) b = ap (λ l. x.what ∷ l) (unplaced-append a b)
+pub unplaced_append : {A : Type 0} (a b : List (Placed A)) → unplaced (a ++ b) ≡ unplaced a ++ unplaced b
+unplaced_append [] b = refl
+unplaced_append (x ∷ a) b = ap (λ l. x.what ∷ l) (unplaced_append a b)
 
 -- the first place in the first list, or else in the second, whose elements stand after all of the first
-pub found-append : {A : Type 0} (breaks : List A → A → Bool) (earlier : List A) (a b : List (Placed A)) →
+pub found_append : {A : Type 0} (breaks : List A → A → Bool) (earlier : List A) (a b : List (Placed A)) →
     first_broken breaks earlier (a ++ b) ≡ or_else (first_broken breaks earlier a) (first_broken breaks (earlier ++ unplaced a) b)
 unfolding first_broken
-found-append breaks earlier [] b = rw append-nil
-found-append {A} breaks earlier (x ∷ a) b = go (breaks earlier x.what) (found-append breaks (earlier ++ (x.what ∷ [])) a b)
+found_append breaks earlier [] b = rw append-nil
+found_append {A} breaks earlier (x ∷ a) b = go (breaks earlier x.what) (found_append breaks (earlier ++ (x.what ∷ [])) a b)
   where
     later : List (Placed A) → Found
     later l = first_broken breaks (earlier ++ (x.what ∷ [])) l
@@ -36,12 +36,12 @@ found-append {A} breaks earlier (x ∷ a) b = go (breaks earlier x.what) (found-
     go false h = h ∙ rw append_assoc
 
 -- two tests, each with its own elements before the list
-pub found-same : {A : Type 0} (f g : List A → A → Bool) (before after : List A) (l : List (Placed A)) →
+pub found_same : {A : Type 0} (f g : List A → A → Bool) (before after : List A) (l : List (Placed A)) →
     ((passed : List A) (p : ℕ) (x : A) → Stands l passed p x → f (before ++ passed) x ≡ g (after ++ passed) x) →
     first_broken f before l ≡ first_broken g after l
 unfolding first_broken
-found-same f g before after [] same = refl
-found-same f g before after (y ∷ l) same =
+found_same f g before after [] same = refl
+found_same f g before after (y ∷ l) same =
     let here : f before y.what ≡ g after y.what = simp append-nil at (same [] y.place y.what (first refl refl)) in
-    let later = found-same f g (before ++ (y.what ∷ [])) (after ++ (y.what ∷ [])) l (λ passed p x s. simp append_assoc (same (y.what ∷ passed) p x (next s))) in
+    let later = found_same f g (before ++ (y.what ∷ [])) (after ++ (y.what ∷ [])) l (λ passed p x s. simp append_assoc (same (y.what ∷ passed) p x (next s))) in
     rw (here, later)

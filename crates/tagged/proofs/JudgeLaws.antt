@@ -22,42 +22,42 @@ pub record Thens (first : Stepper) (next : Judge) (base owner : ℕ) (l : List �
   pub passed : first base owner l ≡ Step.Past size
   pub rest : next (base + size) owner (drop size l) ≡ Judged.Fine
 
-pub then-tells : (first : Stepper) (next : Judge) (base owner : ℕ) (l : List ℕ) → then_by first next base owner l ≡ Judged.Fine → Thens first next base owner l
+pub then_tells : (first : Stepper) (next : Judge) (base owner : ℕ) (l : List ℕ) → then_by first next base owner l ≡ Judged.Fine → Thens first next base owner l
 unfolding then_by
-then-tells first next base owner l e = go (first base owner l) refl e
+then_tells first next base owner l e = go (first base owner l) refl e
   where
     go : (s : Step) → first base owner l ≡ s → after_step s (λ m. next (base + m) owner (drop m l)) ≡ Judged.Fine → Thens first next base owner l
     go (Step.Past m) p q = record { size = m; passed = p; rest = q }
     go (Step.Refused x) p q = absurd (let z : ◌≡◌ {A = ℕ} 0 1 = cc in omega arith)
 
-pub fixed-tells : (n : ℕ) (next : Judge) (base owner : ℕ) (l : List ℕ) → fixed_then n next base owner l ≡ Judged.Fine →
+pub fixed_tells : (n : ℕ) (next : Judge) (base owner : ℕ) (l : List ℕ) → fixed_then n next base owner l ≡ Judged.Fine →
     (n ≤ length l) × (next (base + n) owner (drop n l) ≡ Judged.Fine)
 unfolding fixed_then
-fixed-tells n next base owner l e = go (ltb (length l) n) refl e
+fixed_tells n next base owner l e = go (ltb (length l) n) refl e
   where
     go : (t : Bool) → ltb (length l) n ≡ t → cond t (Judged.Refused owner) (next (base + n) owner (drop n l)) ≡ Judged.Fine →
         (n ≤ length l) × (next (base + n) owner (drop n l) ≡ Judged.Fine)
     go true p q = absurd (let z : ◌≡◌ {A = ℕ} 0 1 = cc in omega arith)
     go false p q = (ltb-false _ _ p, q)
 
-pub ended-tells : (base owner : ℕ) (l : List ℕ) → ended base owner l ≡ Judged.Fine → length l ≡ 0
+pub ended_tells : (base owner : ℕ) (l : List ℕ) → ended base owner l ≡ Judged.Fine → length l ≡ 0
 unfolding ended
-ended-tells base owner l e = go (eqb (length l) 0) refl e
+ended_tells base owner l e = go (eqb (length l) 0) refl e
   where
     go : (t : Bool) → eqb (length l) 0 ≡ t → cond t Judged.Fine (Judged.Refused owner) ≡ Judged.Fine → length l ≡ 0
     go true p q = eqb-true _ _ p
     go false p q = absurd (let z : ◌≡◌ {A = ℕ} 0 1 = cc in omega arith)
 
 -- so many fixed bytes and nothing else
-pub fixed-only : (n base owner : ℕ) (l : List ℕ) → fixed_then n ended base owner l ≡ Judged.Fine → length l ≡ n
-fixed-only n base owner l e =
-    let f = fixed-tells n ended base owner l e in
-    let none = ended-tells (base + n) owner (drop n l) f.1 in
+pub fixed_only_lem : (n base owner : ℕ) (l : List ℕ) → fixed_then n ended base owner l ≡ Judged.Fine → length l ≡ n
+fixed_only_lem n base owner l e =
+    let f = fixed_tells n ended base owner l e in
+    let none = ended_tells (base + n) owner (drop n l) f.1 in
     omega (arith, length-drop n l, f.0)
 
 -- a judge of one sort that finds no fault was given that sort
-pub sort-fine : (a s : Sort) (w : Judged) (x : ℕ) → cond (is_sort a s) w (Judged.Refused x) ≡ Judged.Fine → (is_sort a s ≡ true) × (w ≡ Judged.Fine)
-sort-fine a s w x h = go (is_sort a s) refl h
+pub sort_fine : (a s : Sort) (w : Judged) (x : ℕ) → cond (is_sort a s) w (Judged.Refused x) ≡ Judged.Fine → (is_sort a s ≡ true) × (w ≡ Judged.Fine)
+sort_fine a s w x h = go (is_sort a s) refl h
   where
     go : (t : Bool) → is_sort a s ≡ t → cond t w (Judged.Refused x) ≡ Judged.Fine → (is_sort a s ≡ true) × (w ≡ Judged.Fine)
     go true e h = (e, h)
@@ -65,14 +65,14 @@ sort-fine a s w x h = go (is_sort a s) refl h
 
 -- and what makes it fine: what is passed and then fine, also for what is written
 
-pub then-passed : (first : Stepper) (next : Judge) (base owner : ℕ) (l : List ℕ) (m : ℕ) → first base owner l ≡ Step.Past m →
+pub then_passed : (first : Stepper) (next : Judge) (base owner : ℕ) (l : List ℕ) (m : ℕ) → first base owner l ≡ Step.Past m →
     next (base + m) owner (drop m l) ≡ Judged.Fine → then_by first next base owner l ≡ Judged.Fine
 unfolding then_by
-then-passed first next base owner l m e f = rw e f
+then_passed first next base owner l m e f = rw e f
 
-pub then-written : (first : Stepper) (next : Judge) (base owner : ℕ) (part after : List ℕ) → first base owner (part ++ after) ≡ Step.Past (length part) →
+pub then_written : (first : Stepper) (next : Judge) (base owner : ℕ) (part after : List ℕ) → first base owner (part ++ after) ≡ Step.Past (length part) →
     next (base + length part) owner after ≡ Judged.Fine → then_by first next base owner (part ++ after) ≡ Judged.Fine
-then-written first next base owner part after p q = then-passed first next base owner (part ++ after) (length part) p (rw (drop_at part after (length part) refl, q))
+then_written first next base owner part after p q = then_passed first next base owner (part ++ after) (length part) p (rw (drop_at part after (length part) refl, q))
 
 pub nothing_left : (base owner : ℕ) → ended base owner [] ≡ Judged.Fine
 unfolding ended
@@ -82,15 +82,15 @@ pub last_written : (first : Stepper) (base owner : ℕ) (part : List ℕ) → fi
     then_by first ended base owner part ≡ Judged.Fine
 last_written first base owner part p =
     subst (λ (l : List ℕ). then_by first ended base owner l ≡ Judged.Fine) (append-nil part)
-    (then-written first ended base owner part [] p (nothing_left (base + length part) owner))
+    (then_written first ended base owner part [] p (nothing_left (base + length part) owner))
 
-pub fixed-written : (n : ℕ) (next : Judge) (base owner : ℕ) (l : List ℕ) → n ≤ length l → next (base + n) owner (drop n l) ≡ Judged.Fine →
+pub fixed_written : (n : ℕ) (next : Judge) (base owner : ℕ) (l : List ℕ) → n ≤ length l → next (base + n) owner (drop n l) ≡ Judged.Fine →
     fixed_then n next base owner l ≡ Judged.Fine
 unfolding fixed_then
-fixed-written n next base owner l h q = rw (le-ltb _ _ h, q)
+fixed_written n next base owner l h q = rw (le-ltb _ _ h, q)
 
-pub only-fixed : (n base owner : ℕ) (l : List ℕ) → length l ≡ n → fixed_then n ended base owner l ≡ Judged.Fine
+pub only_fixed : (n base owner : ℕ) (l : List ℕ) → length l ≡ n → fixed_then n ended base owner l ≡ Judged.Fine
 unfolding ended
-only-fixed n base owner l e =
+only_fixed n base owner l e =
     let none : length (drop n l) ≡ 0 = length-drop n l ∙ omega arith in
-    fixed-written n ended base owner l (omega arith) (rw (eq-eqb _ _ none))
+    fixed_written n ended base owner l (omega arith) (rw (eq-eqb _ _ none))

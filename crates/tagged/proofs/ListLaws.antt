@@ -18,9 +18,9 @@ use Rattle.tagged.proofs.ByteLaws.{rest}
 use Rattle.tagged.proofs.FieldLaws.{Whole, whole_open}
 
 -- steps add up
-pub further-zero : (s : Step) → further 0 s ≡ s
-further-zero (Step.Past m) = rw zero-add
-further-zero (Step.Refused x) = refl
+pub further_zero : (s : Step) → further 0 s ≡ s
+further_zero (Step.Past m) = rw zero-add
+further_zero (Step.Refused x) = refl
 
 pub further-further : (a b : ℕ) (s : Step) → further a (further b s) ≡ further (a + b) s
 further-further a b (Step.Past m) = rw add_assoc
@@ -32,91 +32,91 @@ further_past a (Step.Refused x) m e = absurd (let z : ◌≡◌ {A = ℕ} 0 1 = 
 
 -- what a list of fields is, by what stands at its front
 module _ (wanted : Sort → Bool) (one : Stepper) where
-  pub many-skip : (n base owner : ℕ) (l : List ℕ) → n ≤ length l → many_from wanted one n base owner l ≡ further n (many wanted one (base + n) owner (drop n l))
+  pub many_skip : (n base owner : ℕ) (l : List ℕ) → n ≤ length l → many_from wanted one n base owner l ≡ further n (many wanted one (base + n) owner (drop n l))
   unfolding many_from
-  many-skip zero base owner [] h = refl
-  many-skip (suc n) base owner [] h = absurd (omega arith)
-  many-skip zero base owner (x ∷ l) h =
-      sym (further-zero (many wanted one base owner (x ∷ l))) ∙ ap (λ (b : ℕ). further 0 (many wanted one b owner (x ∷ l))) (sym (add-zero base))
-  many-skip (suc n) base owner (x ∷ l) h =
+  many_skip zero base owner [] h = refl
+  many_skip (suc n) base owner [] h = absurd (omega arith)
+  many_skip zero base owner (x ∷ l) h =
+      sym (further_zero (many wanted one base owner (x ∷ l))) ∙ ap (λ (b : ℕ). further 0 (many wanted one b owner (x ∷ l))) (sym (add-zero base))
+  many_skip (suc n) base owner (x ∷ l) h =
       let next : base + 1 + n ≡ base + suc n = omega arith in
       let h' : n ≤ length l = omega arith in
-      ap (further 1) (many-skip n (base + 1) owner l h') ∙ rw (further-further, one-add, next)
+      ap (further 1) (many_skip n (base + 1) owner l h') ∙ rw (further-further, one-add, next)
 
-  pub many-none : (base owner : ℕ) (l : List ℕ) → length l ≡ 0 → many wanted one base owner l ≡ Step.Past 0
+  pub many_none : (base owner : ℕ) (l : List ℕ) → length l ≡ 0 → many wanted one base owner l ≡ Step.Past 0
   unfolding many_from
-  many-none base owner [] h = refl
-  many-none base owner (x ∷ l) h = absurd (omega arith)
+  many_none base owner [] h = refl
+  many_none base owner (x ∷ l) h = absurd (omega arith)
 
-  pub many-stop : (base owner : ℕ) (l : List ℕ) → (length l ≡ 0 → ⊥) → wanted (sort_of (get_or l 0 0)) ≡ false → many wanted one base owner l ≡ Step.Past 0
+  pub many_stop : (base owner : ℕ) (l : List ℕ) → (length l ≡ 0 → ⊥) → wanted (sort_of (get_or l 0 0)) ≡ false → many wanted one base owner l ≡ Step.Past 0
   unfolding many_from
-  many-stop base owner [] some h = absurd (some refl)
-  many-stop base owner (x ∷ l) some h = rw h
+  many_stop base owner [] some h = absurd (some refl)
+  many_stop base owner (x ∷ l) some h = rw h
 
-  pub many-refused : (base owner : ℕ) (l : List ℕ) → (length l ≡ 0 → ⊥) → wanted (sort_of (get_or l 0 0)) ≡ true →
+  pub many_refused : (base owner : ℕ) (l : List ℕ) → (length l ≡ 0 → ⊥) → wanted (sort_of (get_or l 0 0)) ≡ true →
       (x : ℕ) → one base owner l ≡ Step.Refused x → many wanted one base owner l ≡ Step.Refused x
   unfolding many_from
-  many-refused base owner [] some h y e = absurd (some refl)
-  many-refused base owner (x ∷ l) some h y e = rw (h, e)
+  many_refused base owner [] some h y e = absurd (some refl)
+  many_refused base owner (x ∷ l) some h y e = rw (h, e)
 
-  pub many-past : (base owner : ℕ) (l : List ℕ) → (length l ≡ 0 → ⊥) → wanted (sort_of (get_or l 0 0)) ≡ true →
+  pub many_past : (base owner : ℕ) (l : List ℕ) → (length l ≡ 0 → ⊥) → wanted (sort_of (get_or l 0 0)) ≡ true →
       (m : ℕ) → one base owner l ≡ Step.Past m → 1 ≤ m → m ≤ length l → many wanted one base owner l ≡ further m (many wanted one (base + m) owner (drop m l))
   unfolding many_from
-  many-past base owner [] some h m e low high = absurd (some refl)
-  many-past base owner (x ∷ l) some h zero e low high = absurd (omega arith)
-  many-past base owner (x ∷ l) some h (suc m) e low high =
+  many_past base owner [] some h m e low high = absurd (some refl)
+  many_past base owner (x ∷ l) some h zero e low high = absurd (omega arith)
+  many_past base owner (x ∷ l) some h (suc m) e low high =
       let next : base + 1 + m ≡ base + suc m = omega arith in
       let high' : m ≤ length l = omega arith in
-      rw (h, e, sub-one) (ap (further 1) (many-skip m (base + 1) owner l high') ∙ rw (further-further, one-add, next))
+      rw (h, e, sub-one) (ap (further 1) (many_skip m (base + 1) owner l high') ∙ rw (further-further, one-add, next))
 
   -- one turn of a loop that has come to the index `at` of the list
   module _ (base owner : ℕ) (l : List ℕ) (at : ℕ) (going : many wanted one base owner l ≡ further at (many wanted one (base + at) owner (drop at l))) where
-    pub turn-done : length l ≤ at → Step.Past at ≡ many wanted one base owner l
-    turn-done h =
+    pub turn_done : length l ≤ at → Step.Past at ≡ many wanted one base owner l
+    turn_done h =
         let none : length (drop at l) ≡ 0 = rw length-drop (omega arith) in
-        rw (going, many-none (base + at) owner (drop at l) none, add-zero)
+        rw (going, many_none (base + at) owner (drop at l) none, add-zero)
 
     module _ (h : at < length l) where
       some : length (drop at l) ≡ 0 → ⊥
       some = rw length-drop (λ e. omega arith)
 
-      pub turn-stop : wanted (sort_of (get_or (drop at l) 0 0)) ≡ false → Step.Past at ≡ many wanted one base owner l
-      turn-stop w = rw (going, many-stop (base + at) owner (drop at l) some w, add-zero)
+      pub turn_stop : wanted (sort_of (get_or (drop at l) 0 0)) ≡ false → Step.Past at ≡ many wanted one base owner l
+      turn_stop w = rw (going, many_stop (base + at) owner (drop at l) some w, add-zero)
 
       module _ (w : wanted (sort_of (get_or (drop at l) 0 0)) ≡ true) (s : Step) (so : s ≡ one (base + at) owner (take (length l - at) (drop at l))) where
         here : one (base + at) owner (drop at l) ≡ s
         here = sym (rw rest at so)
 
-        pub turn-refused : (x : ℕ) → s ≡ Step.Refused x → Step.Refused x ≡ many wanted one base owner l
-        turn-refused x e = rw (going, many-refused (base + at) owner (drop at l) some w x (here ∙ e))
+        pub turn_refused : (x : ℕ) → s ≡ Step.Refused x → Step.Refused x ≡ many wanted one base owner l
+        turn_refused x e = rw (going, many_refused (base + at) owner (drop at l) some w x (here ∙ e))
 
-        pub turn-past : (m : ℕ) → s ≡ Step.Past m → (3 ≤ m) × (m ≤ length (take (length l - at) (drop at l))) →
+        pub turn_past : (m : ℕ) → s ≡ Step.Past m → (3 ≤ m) × (m ≤ length (take (length l - at) (drop at l))) →
             many wanted one base owner l ≡ further (at + m) (many wanted one (base + (at + m)) owner (drop (at + m) l))
-        turn-past m e b =
+        turn_past m e b =
             let b' : m ≤ length (drop at l) = rw rest at b.1 in
-            going ∙ ap (further at) (many-past (base + at) owner (drop at l) some w m (here ∙ e) (omega (arith, b.0)) b')
+            going ∙ ap (further at) (many_past (base + at) owner (drop at l) some w m (here ∙ e) (omega (arith, b.0)) b')
             ∙ further-further at m (many wanted one (base + at + m) owner (drop m (drop at l))) ∙ rw (drop-drop, add_assoc)
 
 -- what is read of a list of fields, by what stands at its front
 module _ {A : Type 0} (wanted : Sort → Bool) (read : Sort → List ℕ → A) where
-  pub read-skip : (n base : ℕ) (l : List ℕ) → read_from wanted read n base l ≡ read_placed wanted read (base + n) (drop n l)
+  pub read_skip : (n base : ℕ) (l : List ℕ) → read_from wanted read n base l ≡ read_placed wanted read (base + n) (drop n l)
   unfolding read_from
-  read-skip zero base [] = refl
-  read-skip (suc n) base [] = refl
-  read-skip zero base (x ∷ l) = ap (λ (b : ℕ). read_placed wanted read b (x ∷ l)) (sym (add-zero base))
-  read-skip (suc n) base (x ∷ l) =
+  read_skip zero base [] = refl
+  read_skip (suc n) base [] = refl
+  read_skip zero base (x ∷ l) = ap (λ (b : ℕ). read_placed wanted read b (x ∷ l)) (sym (add-zero base))
+  read_skip (suc n) base (x ∷ l) =
       let next : base + 1 + n ≡ base + suc n = omega arith in
-      read-skip n (base + 1) l ∙ rw next
+      read_skip n (base + 1) l ∙ rw next
 
-  pub read-end : (base : ℕ) (l : List ℕ) (x : ℕ) → open_of 0 0 l ≡ Opened.Refused x → read_placed wanted read base l ≡ []
+  pub read_end : (base : ℕ) (l : List ℕ) (x : ℕ) → open_of 0 0 l ≡ Opened.Refused x → read_placed wanted read base l ≡ []
   unfolding read_from
-  read-end base [] x e = refl
-  read-end base (y ∷ l) x e = rw e
+  read_end base [] x e = refl
+  read_end base (y ∷ l) x e = rw e
 
-  pub read-stop : (base : ℕ) (l : List ℕ) {s : Sort} {n : ℕ} → Whole l s n → wanted s ≡ false → read_placed wanted read base l ≡ []
+  pub read_stop : (base : ℕ) (l : List ℕ) {s : Sort} {n : ℕ} → Whole l s n → wanted s ≡ false → read_placed wanted read base l ≡ []
   unfolding read_from
-  read-stop base [] w h = refl
-  read-stop base (x ∷ l) w h = rw (whole_open 0 0 (x ∷ l) w, h)
+  read_stop base [] w h = refl
+  read_stop base (x ∷ l) w h = rw (whole_open 0 0 (x ∷ l) w, h)
 
   pub read_more : (base : ℕ) (l : List ℕ) {s : Sort} {n : ℕ} → Whole l s n → wanted s ≡ true →
       read_placed wanted read base l ≡ record { place = base; what = read s (take n (drop 3 l)) } ∷ read_placed wanted read (base + (n + 3)) (drop (n + 3) l)
@@ -125,15 +125,15 @@ module _ {A : Type 0} (wanted : Sort → Bool) (read : Sort → List ℕ → A) 
   read_more base (x ∷ l) {s} {n} w h =
       let size : n + 3 ≡ suc (n + 2) = omega arith in
       let next : base + 1 + (n + 2) ≡ base + suc (n + 2) = omega arith in
-      rw (whole_open 0 0 (x ∷ l) w, h, size, read-skip (n + 2) (base + 1) l, next)
+      rw (whole_open 0 0 (x ∷ l) w, h, size, read_skip (n + 2) (base + 1) l, next)
 
   -- what is read does not depend on where it stands
-  pub read-anywhere : (skip a b : ℕ) (l : List ℕ) → unplaced (read_from wanted read skip a l) ≡ unplaced (read_from wanted read skip b l)
+  pub read_anywhere : (skip a b : ℕ) (l : List ℕ) → unplaced (read_from wanted read skip a l) ≡ unplaced (read_from wanted read skip b l)
   unfolding read_from
-  read-anywhere zero a b [] = refl
-  read-anywhere (suc n) a b [] = refl
-  read-anywhere (suc n) a b (x ∷ l) = read-anywhere n (a + 1) (b + 1) l
-  read-anywhere zero a b (x ∷ l) = go (open_of 0 0 (x ∷ l)) (λ n. read-anywhere n (a + 1) (b + 1) l)
+  read_anywhere zero a b [] = refl
+  read_anywhere (suc n) a b [] = refl
+  read_anywhere (suc n) a b (x ∷ l) = read_anywhere n (a + 1) (b + 1) l
+  read_anywhere zero a b (x ∷ l) = go (open_of 0 0 (x ∷ l)) (λ n. read_anywhere n (a + 1) (b + 1) l)
     where
       here : ℕ → Bool → Sort → ℕ → List (Placed A)
       here base t s n = choose t (λ _. record { place = base; what = read s (take n (drop 3 (x ∷ l))) } ∷ read_from wanted read (n + 2) (base + 1) l) (λ _. [])

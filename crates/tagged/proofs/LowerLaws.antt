@@ -13,19 +13,19 @@ use Rattle.tagged.specs.Refusals.{first_broken, or_else, found_if, refused_at, f
 use Rattle.tagged.specs.declared.answers.Rule.{Rule}
 use Rattle.tagged.specs.declared.answers.Answer.{Answer}
 use Rattle.tagged.specs.declared.answers.Found.{Found}
-use Rattle.tagged.proofs.RefusalLaws.{Rising, done, rise, FirstRule, here, later, refused-first}
+use Rattle.tagged.proofs.RefusalLaws.{Rising, done, rise, FirstRule, here, later, refused_first}
 
 -- acceptance, on either side, changes nothing
-pub lower-accepted : (a : Answer) → lower_refusal a Answer.Accepted ≡ a
-lower-accepted Answer.Accepted = refl
-lower-accepted (Answer.Refused rule place) = refl
+pub lower_accepted : (a : Answer) → lower_refusal a Answer.Accepted ≡ a
+lower_accepted Answer.Accepted = refl
+lower_accepted (Answer.Refused rule place) = refl
 
 -- three answers, joined from either side
-pub lower-joined : (a b c : Answer) → lower_refusal (lower_refusal a b) c ≡ lower_refusal a (lower_refusal b c)
-lower-joined Answer.Accepted b c = refl
-lower-joined (Answer.Refused r p) Answer.Accepted c = refl
-lower-joined (Answer.Refused r p) (Answer.Refused s q) Answer.Accepted = lower-accepted (cond (ltb (number_of s) (number_of r)) (Answer.Refused s q) (Answer.Refused r p))
-lower-joined (Answer.Refused r p) (Answer.Refused s q) (Answer.Refused t u) = go (ltb (number_of s) (number_of r)) (ltb (number_of t) (number_of s)) refl refl
+pub lower_joined : (a b c : Answer) → lower_refusal (lower_refusal a b) c ≡ lower_refusal a (lower_refusal b c)
+lower_joined Answer.Accepted b c = refl
+lower_joined (Answer.Refused r p) Answer.Accepted c = refl
+lower_joined (Answer.Refused r p) (Answer.Refused s q) Answer.Accepted = lower_accepted (cond (ltb (number_of s) (number_of r)) (Answer.Refused s q) (Answer.Refused r p))
+lower_joined (Answer.Refused r p) (Answer.Refused s q) (Answer.Refused t u) = go (ltb (number_of s) (number_of r)) (ltb (number_of t) (number_of s)) refl refl
   where
     go : (sr ts : Bool) → ltb (number_of s) (number_of r) ≡ sr → ltb (number_of t) (number_of s) ≡ ts →
         lower_refusal (lower_refusal (Answer.Refused r p) (Answer.Refused s q)) (Answer.Refused t u)
@@ -47,13 +47,13 @@ first_above {broken = broken} {k = k} {p = p} (done {from = from}) x4 = elim x4 
 
 -- a rule that is looked for earlier, against the answer of later ones
 module _ {rule : Rule} {rules : List Rule} (r : Rising (suc (number_of rule)) rules) (broken : Rule → Found) (place : ℕ) where
-  stands-before : lower_refusal (Answer.Refused rule place) (first_refusal broken rules) ≡ Answer.Refused rule place
-  stands-before = go (first_refusal broken rules) refl
+  stands_before : lower_refusal (Answer.Refused rule place) (first_refusal broken rules) ≡ Answer.Refused rule place
+  stands_before = go (first_refusal broken rules) refl
     where
       go : (a : Answer) → first_refusal broken rules ≡ a → lower_refusal (Answer.Refused rule place) a ≡ Answer.Refused rule place
       go Answer.Accepted e = refl
       go (Answer.Refused other p) e =
-          let above : ltb (number_of other) (number_of rule) ≡ false = le-ltb (number_of other) (number_of rule) (omega (arith, first_above r (refused-first broken rules e))) in
+          let above : ltb (number_of other) (number_of rule) ≡ false = le-ltb (number_of other) (number_of rule) (omega (arith, first_above r (refused_first broken rules e))) in
           rw above
 
   stands_after : lower_refusal (first_refusal broken rules) (Answer.Refused rule place) ≡ Answer.Refused rule place
@@ -62,15 +62,15 @@ module _ {rule : Rule} {rules : List Rule} (r : Rising (suc (number_of rule)) ru
       go : (a : Answer) → first_refusal broken rules ≡ a → lower_refusal a (Answer.Refused rule place) ≡ Answer.Refused rule place
       go Answer.Accepted e = refl
       go (Answer.Refused other p) e =
-          let below : ltb (number_of rule) (number_of other) ≡ true = lt-ltb (number_of rule) (number_of other) (omega (arith, first_above r (refused-first broken rules e))) in
+          let below : ltb (number_of rule) (number_of other) ≡ true = lt-ltb (number_of rule) (number_of other) (omega (arith, first_above r (refused_first broken rules e))) in
           rw below
 
 -- a rule's first place among two parts is that of the first, or else of the second: so for the answers
-pub refusal-both : (a b : Rule → Found) {from : ℕ} {rules : List Rule} → Rising from rules →
+pub refusal_both : (a b : Rule → Found) {from : ℕ} {rules : List Rule} → Rising from rules →
     first_refusal (λ rule. or_else (a rule) (b rule)) rules ≡ lower_refusal (first_refusal a rules) (first_refusal b rules)
 unfolding first_refusal
-refusal-both a b done = refl
-refusal-both a b (rise {r = rule} {rules} low r) = go (a rule) (b rule) (refusal-both a b r)
+refusal_both a b done = refl
+refusal_both a b (rise {r = rule} {rules} low r) = go (a rule) (b rule) (refusal_both a b r)
   where
     go : (x y : Found) → first_refusal (λ rule. or_else (a rule) (b rule)) rules ≡ lower_refusal (first_refusal a rules) (first_refusal b rules) →
         refused_at rule (or_else x y) (first_refusal (λ rule. or_else (a rule) (b rule)) rules)
@@ -78,41 +78,41 @@ refusal-both a b (rise {r = rule} {rules} low r) = go (a rule) (b rule) (refusal
     go (Found.At p) (Found.At q) others =
         let itself : ltb (number_of rule) (number_of rule) ≡ false = le-ltb (number_of rule) (number_of rule) (omega arith) in
         rw itself
-    go (Found.At p) Found.Nowhere others = sym (stands-before r b p)
+    go (Found.At p) Found.Nowhere others = sym (stands_before r b p)
     go Found.Nowhere (Found.At q) others = sym (stands_after r a q)
     go Found.Nowhere Found.Nowhere others = others
 
 -- two ways to look for the places that agree on every rule
-pub refusal-same : (a b : Rule → Found) → ((rule : Rule) → a rule ≡ b rule) → (rules : List Rule) → first_refusal a rules ≡ first_refusal b rules
+pub refusal_same : (a b : Rule → Found) → ((rule : Rule) → a rule ≡ b rule) → (rules : List Rule) → first_refusal a rules ≡ first_refusal b rules
 unfolding first_refusal
-refusal-same a b same [] = refl
-refusal-same a b same (rule ∷ rules) = rw (same rule, refusal-same a b same rules)
+refusal_same a b same [] = refl
+refusal_same a b same (rule ∷ rules) = rw (same rule, refusal_same a b same rules)
 
 -- no rule has a place
-pub refusal-nowhere : (rules : List Rule) → first_refusal (λ rule. Found.Nowhere) rules ≡ Answer.Accepted
+pub refusal_nowhere : (rules : List Rule) → first_refusal (λ rule. Found.Nowhere) rules ≡ Answer.Accepted
 unfolding first_refusal
-refusal-nowhere [] = refl
-refusal-nowhere (rule ∷ rules) = refusal-nowhere rules
+refusal_nowhere [] = refl
+refusal_nowhere (rule ∷ rules) = refusal_nowhere rules
 
 -- the first place of a list is its first element's, or else that of the others
 module _ {A : Type 0} where
-  pub broken-front : (breaks : List A → A → Bool) (earlier : List A) (x : Placed A) (l : List (Placed A)) →
+  pub broken_front : (breaks : List A → A → Bool) (earlier : List A) (x : Placed A) (l : List (Placed A)) →
       first_broken breaks earlier (x ∷ l) ≡ or_else (found_if (breaks earlier x.what) x.place) (first_broken breaks (earlier ++ (x.what ∷ [])) l)
   unfolding first_broken
-  broken-front breaks earlier x l = go (breaks earlier x.what)
+  broken_front breaks earlier x l = go (breaks earlier x.what)
     where
-      later-found : Found
-      later-found = first_broken breaks (earlier ++ (x.what ∷ [])) l
+      later_found : Found
+      later_found = first_broken breaks (earlier ++ (x.what ∷ [])) l
 
-      go : (t : Bool) → choose t (λ _. Found.At x.place) (λ _. later-found) ≡ or_else (found_if t x.place) later-found
+      go : (t : Bool) → choose t (λ _. Found.At x.place) (λ _. later_found) ≡ or_else (found_if t x.place) later_found
       go true = refl
       go false = refl
 
   -- so for the answers by all rules
-  pub answer-front : (breaks : Rule → List A → A → Bool) (earlier : List A) (x : Placed A) (l : List (Placed A)) {from : ℕ} {rules : List Rule} → Rising from rules →
+  pub answer_front : (breaks : Rule → List A → A → Bool) (earlier : List A) (x : Placed A) (l : List (Placed A)) {from : ℕ} {rules : List Rule} → Rising from rules →
       first_refusal (λ rule. first_broken (breaks rule) earlier (x ∷ l)) rules
       ≡ lower_refusal (first_refusal (λ rule. found_if (breaks rule earlier x.what) x.place) rules)
       (first_refusal (λ rule. first_broken (breaks rule) (earlier ++ (x.what ∷ [])) l) rules)
-  answer-front breaks earlier x l {rules = rules} r =
-      refusal-same _ _ (λ rule. broken-front (breaks rule) earlier x l) rules
-      ∙ refusal-both (λ rule. found_if (breaks rule earlier x.what) x.place) (λ rule. first_broken (breaks rule) (earlier ++ (x.what ∷ [])) l) r
+  answer_front breaks earlier x l {rules = rules} r =
+      refusal_same _ _ (λ rule. broken_front (breaks rule) earlier x l) rules
+      ∙ refusal_both (λ rule. found_if (breaks rule earlier x.what) x.place) (λ rule. first_broken (breaks rule) (earlier ++ (x.what ∷ [])) l) r

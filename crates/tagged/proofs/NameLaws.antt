@@ -10,64 +10,64 @@ use lib.ListN.{length, get_or, drop, drop_of_length-le}
 use lib.Seq.{drop-cons}
 use borrow.Author.Tests.{eq-eqb, ne_eqb, eqb-true}
 use Rattle.tagged.specs.Names.{is_name_byte, all_name_bytes, same_name}
-use Rattle.tagged.proofs.RangeLaws.{range-above, range-below, range-within}
+use Rattle.tagged.proofs.RangeLaws.{range_above, range_below, range_within}
 
 -- which bytes a name may have
 module _ (b : ℕ) where
-  pub byte-digit : 0x30 ≤ b → b < 0x3A → is_name_byte b ≡ true
+  pub byte_digit : 0x30 ≤ b → b < 0x3A → is_name_byte b ≡ true
   unfolding is_name_byte
-  byte-digit h k = rw (range-below b 0x41 0x5A (omega arith), range-below b 0x61 0x7A (omega arith), range-within b 0x30 0x39 h (omega arith))
+  byte_digit h k = rw (range_below b 0x41 0x5A (omega arith), range_below b 0x61 0x7A (omega arith), range_within b 0x30 0x39 h (omega arith))
 
-  pub byte-upper : 0x41 ≤ b → b < 0x5B → is_name_byte b ≡ true
+  pub byte_upper : 0x41 ≤ b → b < 0x5B → is_name_byte b ≡ true
   unfolding is_name_byte
-  byte-upper h k = rw (range-within b 0x41 0x5A h (omega arith))
+  byte_upper h k = rw (range_within b 0x41 0x5A h (omega arith))
 
-  pub byte-underscore : b ≡ 0x5F → is_name_byte b ≡ true
+  pub byte_underscore : b ≡ 0x5F → is_name_byte b ≡ true
   unfolding is_name_byte
-  byte-underscore e = rw e
+  byte_underscore e = rw e
 
-  pub byte-lower : 0x61 ≤ b → b < 0x7B → is_name_byte b ≡ true
+  pub byte_lower : 0x61 ≤ b → b < 0x7B → is_name_byte b ≡ true
   unfolding is_name_byte
-  byte-lower h k = rw (range-above b 0x41 0x5A (omega arith), range-within b 0x61 0x7A h (omega arith))
+  byte_lower h k = rw (range_above b 0x41 0x5A (omega arith), range_within b 0x61 0x7A h (omega arith))
 
   pub byte_low : b < 0x30 → is_name_byte b ≡ false
   unfolding is_name_byte
-  byte_low h = rw (range-below b 0x41 0x5A (omega arith), range-below b 0x61 0x7A (omega arith), range-below b 0x30 0x39 h, ne_eqb b 0x5F (λ e. omega arith))
+  byte_low h = rw (range_below b 0x41 0x5A (omega arith), range_below b 0x61 0x7A (omega arith), range_below b 0x30 0x39 h, ne_eqb b 0x5F (λ e. omega arith))
 
-  pub byte-between : 0x3A ≤ b → b < 0x41 → is_name_byte b ≡ false
+  pub byte_between : 0x3A ≤ b → b < 0x41 → is_name_byte b ≡ false
   unfolding is_name_byte
-  byte-between h k = rw (range-below b 0x41 0x5A k, range-below b 0x61 0x7A (omega arith), range-above b 0x30 0x39 (omega arith), ne_eqb b 0x5F (λ e. omega arith))
+  byte_between h k = rw (range_below b 0x41 0x5A k, range_below b 0x61 0x7A (omega arith), range_above b 0x30 0x39 (omega arith), ne_eqb b 0x5F (λ e. omega arith))
 
-  pub byte-beside : 0x5B ≤ b → b < 0x61 → (b ≡ 0x5F → ⊥) → is_name_byte b ≡ false
+  pub byte_beside : 0x5B ≤ b → b < 0x61 → (b ≡ 0x5F → ⊥) → is_name_byte b ≡ false
   unfolding is_name_byte
-  byte-beside h k n = rw (range-above b 0x41 0x5A (omega arith), range-below b 0x61 0x7A k, range-above b 0x30 0x39 (omega arith), ne_eqb b 0x5F n)
+  byte_beside h k n = rw (range_above b 0x41 0x5A (omega arith), range_below b 0x61 0x7A k, range_above b 0x30 0x39 (omega arith), ne_eqb b 0x5F n)
 
   pub byte_high : 0x7B ≤ b → is_name_byte b ≡ false
   unfolding is_name_byte
-  byte_high h = rw (range-above b 0x41 0x5A (omega arith), range-above b 0x61 0x7A (omega arith), range-above b 0x30 0x39 (omega arith), ne_eqb b 0x5F (λ e. omega arith))
+  byte_high h = rw (range_above b 0x41 0x5A (omega arith), range_above b 0x61 0x7A (omega arith), range_above b 0x30 0x39 (omega arith), ne_eqb b 0x5F (λ e. omega arith))
 
 -- one turn of the loop over a name's bytes, which has come to the index `at`
 module _ (l : List ℕ) (at : ℕ) (going : all_name_bytes l ≡ all_name_bytes (drop at l)) where
   module _ (h : at < length l) where
-    pub bytes-turn : is_name_byte (get_or l at 0) ≡ true → all_name_bytes l ≡ all_name_bytes (drop (at + 1) l)
+    pub bytes_turn : is_name_byte (get_or l at 0) ≡ true → all_name_bytes l ≡ all_name_bytes (drop (at + 1) l)
     unfolding all_name_bytes
-    bytes-turn e = going ∙ rw (drop-cons l at 0 h, e, add-one)
+    bytes_turn e = going ∙ rw (drop-cons l at 0 h, e, add-one)
 
-    pub bytes-broken : is_name_byte (get_or l at 0) ≡ false → false ≡ all_name_bytes l
+    pub bytes_broken : is_name_byte (get_or l at 0) ≡ false → false ≡ all_name_bytes l
     unfolding all_name_bytes
-    bytes-broken e = sym (going ∙ rw (drop-cons l at 0 h, e))
+    bytes_broken e = sym (going ∙ rw (drop-cons l at 0 h, e))
 
-  pub bytes-done : length l ≤ at → true ≡ all_name_bytes l
+  pub bytes_done : length l ≤ at → true ≡ all_name_bytes l
   unfolding all_name_bytes
-  bytes-done h = sym (going ∙ rw (drop_of_length-le l h))
+  bytes_done h = sym (going ∙ rw (drop_of_length-le l h))
 
 -- names of different lengths differ
-pub same-lengths : (a b : List ℕ) → (length a ≡ length b → ⊥) → same_name a b ≡ false
+pub same_lengths : (a b : List ℕ) → (length a ≡ length b → ⊥) → same_name a b ≡ false
 unfolding same_name
-same-lengths [] [] n = absurd (n refl)
-same-lengths [] (y ∷ b) n = refl
-same-lengths (x ∷ a) [] n = refl
-same-lengths (x ∷ a) (y ∷ b) n = rw (same-lengths a b (λ e. n (ap suc e)), mathlib.Core.Bool.and-false)
+same_lengths [] [] n = absurd (n refl)
+same_lengths [] (y ∷ b) n = refl
+same_lengths (x ∷ a) [] n = refl
+same_lengths (x ∷ a) (y ∷ b) n = rw (same_lengths a b (λ e. n (ap suc e)), mathlib.Core.Bool.and-false)
 
 -- one turn of the loop over two names of one length
 module _ (a b : List ℕ) (at : ℕ) (long : length a ≡ length b) (going : same_name a b ≡ same_name (drop at a) (drop at b)) where
@@ -76,13 +76,13 @@ module _ (a b : List ℕ) (at : ℕ) (long : length a ≡ length b) (going : sam
     unfolding same_name
     same_turn e = let k : at < length b = omega arith in going ∙ rw (drop-cons a at 0 h, drop-cons b at 0 k, eq-eqb _ _ e, add-one)
 
-    pub same-broken : (get_or a at 0 ≡ get_or b at 0 → ⊥) → false ≡ same_name a b
+    pub same_broken : (get_or a at 0 ≡ get_or b at 0 → ⊥) → false ≡ same_name a b
     unfolding same_name
-    same-broken n = let k : at < length b = omega arith in sym (going ∙ rw (drop-cons a at 0 h, drop-cons b at 0 k, ne_eqb _ _ n))
+    same_broken n = let k : at < length b = omega arith in sym (going ∙ rw (drop-cons a at 0 h, drop-cons b at 0 k, ne_eqb _ _ n))
 
-  pub same-done : length a ≤ at → true ≡ same_name a b
+  pub same_done : length a ≤ at → true ≡ same_name a b
   unfolding same_name
-  same-done h = let k : length b ≤ at = omega arith in sym (going ∙ rw (drop_of_length-le a h, drop_of_length-le b k))
+  same_done h = let k : length b ≤ at = omega arith in sym (going ∙ rw (drop_of_length-le a h, drop_of_length-le b k))
 
 -- the test of sameness is equality
 pub same_refl : (a : List ℕ) → same_name a a ≡ true
@@ -90,12 +90,12 @@ unfolding same_name
 same_refl [] = refl
 same_refl (x ∷ a) = rw (eq-eqb x x refl, same_refl a)
 
-pub same-equal : (a b : List ℕ) → same_name a b ≡ true → a ≡ b
+pub same_equal : (a b : List ℕ) → same_name a b ≡ true → a ≡ b
 unfolding same_name
-same-equal [] [] e = refl
-same-equal [] (y ∷ b) e = absurd (false≢true e)
-same-equal (x ∷ a) [] e = absurd (false≢true e)
-same-equal (x ∷ a) (y ∷ b) e = go (eqb x y) refl e (λ k. same-equal a b k)
+same_equal [] [] e = refl
+same_equal [] (y ∷ b) e = absurd (false≢true e)
+same_equal (x ∷ a) [] e = absurd (false≢true e)
+same_equal (x ∷ a) (y ∷ b) e = go (eqb x y) refl e (λ k. same_equal a b k)
   where
     go : (t : Bool) → eqb x y ≡ t → t && same_name a b ≡ true → (same_name a b ≡ true → a ≡ b) → x ∷ a ≡ y ∷ b
     go true p q ih = ap₂ (λ (z : ℕ) (l : List ℕ). z ∷ l) (eqb-true x y p) (ih q)

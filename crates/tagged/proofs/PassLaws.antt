@@ -11,29 +11,29 @@ use borrow.Author.Tests.{ltb-true, ltb-false}
 use Rattle.tagged.specs.Fields.{placed_by}
 use Rattle.tagged.specs.Refusals.{first_broken}
 use Rattle.tagged.specs.declared.answers.Found.{Found}
-use Rattle.tagged.proofs.RefusalLaws.{nowhere-passes}
-use Rattle.tagged.proofs.PlaceLaws.{member-stands, index-stands}
+use Rattle.tagged.proofs.RefusalLaws.{nowhere_passes}
+use Rattle.tagged.proofs.PlaceLaws.{member_stands, index_stands}
 
 -- each element of the second list passes, after the first list and those before it in the second
 pub data EachAfter {A : Type 0} (Pass : List A → A → Type 0) : List A → List A → Type 0 where
   none_after : {earlier : List A} → EachAfter Pass earlier []
-  more-after : {earlier : List A} {a : A} {l : List A} → Pass earlier a → EachAfter Pass (earlier ++ (a ∷ [])) l → EachAfter Pass earlier (a ∷ l)
+  more_after : {earlier : List A} {a : A} {l : List A} → Pass earlier a → EachAfter Pass (earlier ++ (a ∷ [])) l → EachAfter Pass earlier (a ∷ l)
 
 module _ {A : Type 0} {Pass : List A → A → Type 0} where
-  pub one-after : {earlier : List A} {a : A} → Pass earlier a → EachAfter Pass earlier (a ∷ [])
-  one-after p = more-after p none_after
+  pub one_after : {earlier : List A} {a : A} → Pass earlier a → EachAfter Pass earlier (a ∷ [])
+  one_after p = more_after p none_after
 
   pub each_append : {earlier a b : List A} → EachAfter Pass earlier a → EachAfter Pass (earlier ++ a) b → EachAfter Pass earlier (a ++ b)
   each_append none_after h = rw append-nil at h
-  each_append {b} (more-after p r) h = more-after p (each_append {b = b} r (rw append_assoc h))
+  each_append {b} (more_after p r) h = more_after p (each_append {b = b} r (rw append_assoc h))
 
 module _ {A : Type 0} (breaks : List A → A → Bool) (bytes : A → List ℕ) where
   -- none breaks the rule, so it has no place
-  pub each-nowhere : {Pass : List A → A → Type 0} → ((earlier : List A) (a : A) → Pass earlier a → breaks earlier a ≡ false) →
+  pub each_nowhere : {Pass : List A → A → Type 0} → ((earlier : List A) (a : A) → Pass earlier a → breaks earlier a ≡ false) →
       {earlier l : List A} (base : ℕ) → EachAfter Pass earlier l → first_broken breaks earlier (placed_by bytes base l) ≡ Found.Nowhere
   unfolding first_broken placed_by
-  each-nowhere passes base none_after = refl
-  each-nowhere passes {earlier} base (more-after {a = a} p r) = rw (passes earlier a p) (each-nowhere passes (base + length (bytes a)) r)
+  each_nowhere passes base none_after = refl
+  each_nowhere passes {earlier} base (more_after {a = a} p r) = rw (passes earlier a p) (each_nowhere passes (base + length (bytes a)) r)
 
   -- no place: every element passes after some that are fewer than all
   pub record PassesAfter (l : List A) (a : A) : Type 0 where
@@ -41,18 +41,18 @@ module _ {A : Type 0} (breaks : List A → A → Bool) (bytes : A → List ℕ) 
     pub fewer : length before < length l
     pub passes : breaks before a ≡ false
 
-  pub nowhere-member : (base : ℕ) {l : List A} → first_broken breaks [] (placed_by bytes base l) ≡ Found.Nowhere → {a : A} → Memᴰ a l → PassesAfter l a
-  nowhere-member base e m =
-      let s = member-stands bytes base m in
-      record { before = s.before; fewer = s.within; passes = nowhere-passes breaks [] s.stands e }
+  pub nowhere_member : (base : ℕ) {l : List A} → first_broken breaks [] (placed_by bytes base l) ≡ Found.Nowhere → {a : A} → Memᴰ a l → PassesAfter l a
+  nowhere_member base e m =
+      let s = member_stands bytes base m in
+      record { before = s.before; fewer = s.within; passes = nowhere_passes breaks [] s.stands e }
 
   -- a rule that only an element with fewer than `most` before it passes bounds the list
-  pub nowhere-length : (most : ℕ) → ((before : List A) (a : A) → breaks before a ≡ false → length before < most) → (base : ℕ) (l : List A) →
+  pub nowhere_length : (most : ℕ) → ((before : List A) (a : A) → breaks before a ≡ false → length before < most) → (base : ℕ) (l : List A) →
       first_broken breaks [] (placed_by bytes base l) ≡ Found.Nowhere → length l ≤ most
-  nowhere-length most has base l e = go (ltb most (length l)) refl
+  nowhere_length most has base l e = go (ltb most (length l)) refl
     where
       go : (t : Bool) → ltb most (length l) ≡ t → length l ≤ most
       go true h =
-          let s = index-stands bytes base l most (ltb-true most (length l) h) in
-          absurd (omega (arith, s.index, has s.before s.what (nowhere-passes breaks [] s.stands e)))
+          let s = index_stands bytes base l most (ltb-true most (length l) h) in
+          absurd (omega (arith, s.index, has s.before s.what (nowhere_passes breaks [] s.stands e)))
       go false h = ltb-false most (length l) h

@@ -6,11 +6,11 @@ use borrow.Author.Tests.{le-leb, lt-leb}
 use Rattle.tagged.specs.Choice.{in_range}
 
 module _ (n first last : ℕ) where
-  pub range-above : last < n → in_range first last n ≡ false
-  range-above h = rw (lt-leb n last h, and-false)
+  pub range_above : last < n → in_range first last n ≡ false
+  range_above h = rw (lt-leb n last h, and-false)
 
-  pub range-below : n < first → in_range first last n ≡ false
-  range-below h = rw (lt-leb first n h)
+  pub range_below : n < first → in_range first last n ≡ false
+  range_below h = rw (lt-leb first n h)
 
-  pub range-within : first ≤ n → n ≤ last → in_range first last n ≡ true
-  range-within h k = rw (le-leb first n h, le-leb n last k)
+  pub range_within : first ≤ n → n ≤ last → in_range first last n ≡ true
+  range_within h k = rw (le-leb first n h, le-leb n last k)

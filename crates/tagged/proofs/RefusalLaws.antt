@@ -17,16 +17,16 @@ use Rattle.tagged.specs.declared.answers.Found.{Found}
 use Rattle.tagged.specs.Stands.{Stands, first, next}
 
 -- a place is not nowhere, and a refusal is not acceptance
-pub at-not-nowhere : {B : Type 0} {p : ℕ} → Found.At p ≡ Found.Nowhere → B
-at-not-nowhere e = absurd (let z : ◌≡◌ {A = ℕ} 0 1 = cc in omega arith)
+pub at_not_nowhere : {B : Type 0} {p : ℕ} → Found.At p ≡ Found.Nowhere → B
+at_not_nowhere e = absurd (let z : ◌≡◌ {A = ℕ} 0 1 = cc in omega arith)
 
-pub refused-not-accepted : {B : Type 0} {k : Rule} {p : ℕ} → Answer.Refused k p ≡ Answer.Accepted → B
-refused-not-accepted e = absurd (let z : ◌≡◌ {A = ℕ} 0 1 = cc in omega arith)
+pub refused_not_accepted : {B : Type 0} {k : Rule} {p : ℕ} → Answer.Refused k p ≡ Answer.Accepted → B
+refused_not_accepted e = absurd (let z : ◌≡◌ {A = ℕ} 0 1 = cc in omega arith)
 
 -- the first place or else the second: nowhere if both are, and a place from the first or, that being nowhere, from the second
-pub nowhere-both : (a b : Found) → or_else a b ≡ Found.Nowhere → (a ≡ Found.Nowhere) × (b ≡ Found.Nowhere)
-nowhere-both (Found.At p) b e = at-not-nowhere e
-nowhere-both Found.Nowhere b e = (refl, e)
+pub nowhere_both : (a b : Found) → or_else a b ≡ Found.Nowhere → (a ≡ Found.Nowhere) × (b ≡ Found.Nowhere)
+nowhere_both (Found.At p) b e = at_not_nowhere e
+nowhere_both Found.Nowhere b e = (refl, e)
 
 pub data OneOf (a b : Found) (p : ℕ) : Type 0 where
   one : a ≡ Found.At p → OneOf a b p
@@ -43,33 +43,33 @@ one_at (other e f) = rw (e, f)
 -- the elements
 module _ {A : Type 0} (breaks : List A → A → Bool) where
   -- by what stands at the front
-  pub front-passes : (earlier : List A) (x : Placed A) (l : List (Placed A)) → first_broken breaks earlier (x ∷ l) ≡ Found.Nowhere →
+  pub front_passes : (earlier : List A) (x : Placed A) (l : List (Placed A)) → first_broken breaks earlier (x ∷ l) ≡ Found.Nowhere →
       (breaks earlier x.what ≡ false) × (first_broken breaks (earlier ++ (x.what ∷ [])) l ≡ Found.Nowhere)
   unfolding first_broken
-  front-passes earlier x l e = go (breaks earlier x.what) refl e
+  front_passes earlier x l e = go (breaks earlier x.what) refl e
     where
       later : Found
       later = first_broken breaks (earlier ++ (x.what ∷ [])) l
 
       go : (t : Bool) → breaks earlier x.what ≡ t → choose t (λ _. Found.At x.place) (λ _. later) ≡ Found.Nowhere →
           (breaks earlier x.what ≡ false) × (later ≡ Found.Nowhere)
-      go true h e = at-not-nowhere e
+      go true h e = at_not_nowhere e
       go false h e = (h, e)
 
   -- nowhere: each element, given those before it, passes
-  pub nowhere-passes : (earlier : List A) {l : List (Placed A)} {before : List A} {p : ℕ} {x : A} → Stands l before p x →
+  pub nowhere_passes : (earlier : List A) {l : List (Placed A)} {before : List A} {p : ℕ} {x : A} → Stands l before p x →
       first_broken breaks earlier l ≡ Found.Nowhere → breaks (earlier ++ before) x ≡ false
-  nowhere-passes earlier (first {y} {l} i j) e = rw (append-nil, ← j) (front-passes earlier y l e).0
-  nowhere-passes earlier (next {y} {l} {before} s) e =
-      rw append_assoc at (nowhere-passes (earlier ++ (y.what ∷ [])) s (front-passes earlier y l e).1)
+  nowhere_passes earlier (first {y} {l} i j) e = rw (append-nil, ← j) (front_passes earlier y l e).0
+  nowhere_passes earlier (next {y} {l} {before} s) e =
+      rw append_assoc at (nowhere_passes (earlier ++ (y.what ∷ [])) s (front_passes earlier y l e).1)
 
-  pub passes-nowhere : (earlier : List A) (l : List (Placed A)) →
+  pub passes_nowhere : (earlier : List A) (l : List (Placed A)) →
       ((before : List A) (p : ℕ) (x : A) → Stands l before p x → breaks (earlier ++ before) x ≡ false) → first_broken breaks earlier l ≡ Found.Nowhere
   unfolding first_broken
-  passes-nowhere earlier [] h = refl
-  passes-nowhere earlier (y ∷ l) h =
+  passes_nowhere earlier [] h = refl
+  passes_nowhere earlier (y ∷ l) h =
       let here : breaks earlier y.what ≡ false = rw append-nil at (h [] y.place y.what (first refl refl)) in
-      rw here (passes-nowhere (earlier ++ (y.what ∷ [])) l (λ before p x s. rw append_assoc (h (y.what ∷ before) p x (next s))))
+      rw here (passes_nowhere (earlier ++ (y.what ∷ [])) l (λ before p x s. rw append_assoc (h (y.what ∷ before) p x (next s))))
 
   -- a place: the first element that breaks, given those before it, stands there
   pub record FirstBreak (earlier : List A) (l : List (Placed A)) (p : ℕ) : Type 0 where
@@ -81,7 +81,7 @@ module _ {A : Type 0} (breaks : List A → A → Bool) where
 
   pub at_first : (earlier : List A) (l : List (Placed A)) (p : ℕ) → first_broken breaks earlier l ≡ Found.At p → FirstBreak earlier l p
   unfolding first_broken
-  at_first earlier [] p e = at-not-nowhere (sym e)
+  at_first earlier [] p e = at_not_nowhere (sym e)
   at_first earlier (y ∷ l) p e = go (breaks earlier y.what) refl e (at_first (earlier ++ (y.what ∷ [])) l p)
     where
       later : Found
@@ -112,15 +112,15 @@ module _ {A : Type 0} (breaks : List A → A → Bool) where
             others = λ b q z s less. sooner (length f.before) h f.others s less;
           }
 
-  pub first-at : (earlier : List A) {l : List (Placed A)} {before : List A} {p : ℕ} {x : A} → Stands l before p x → breaks (earlier ++ before) x ≡ true →
+  pub first_at : (earlier : List A) {l : List (Placed A)} {before : List A} {p : ℕ} {x : A} → Stands l before p x → breaks (earlier ++ before) x ≡ true →
       ((b : List A) (q : ℕ) (y : A) → Stands l b q y → length b < length before → breaks (earlier ++ b) y ≡ false) → first_broken breaks earlier l ≡ Found.At p
   unfolding first_broken
-  first-at earlier (first {y} i j) e others =
+  first_at earlier (first {y} i j) e others =
       let here : breaks earlier y.what ≡ true = rw j (rw append-nil at e) in
       rw (here, i)
-  first-at earlier (next {y} {l} {before} s) e others =
+  first_at earlier (next {y} {l} {before} s) e others =
       let here : breaks earlier y.what ≡ false = rw append-nil at (others [] y.place y.what (first refl refl) (omega arith)) in
-      rw here (first-at (earlier ++ (y.what ∷ [])) s (rw append_assoc e)
+      rw here (first_at (earlier ++ (y.what ∷ [])) s (rw append_assoc e)
       (λ b q z t less. rw append_assoc (others (y.what ∷ b) q z (next t) (omega arith))))
 
 -- rules in rising order of their numbers, the first not below `from`
@@ -133,20 +133,20 @@ abbrev pub in_order : ℕ → List Rule → Bool
 in_order from [] = true
 in_order from (r ∷ rules) = leb from (number_of r) && in_order (suc (number_of r)) rules
 
-pub order-rising : (from : ℕ) (rules : List Rule) → in_order from rules ≡ true → Rising from rules
-order-rising from [] e = done
-order-rising from (r ∷ rules) e =
+pub order_rising : (from : ℕ) (rules : List Rule) → in_order from rules ≡ true → Rising from rules
+order_rising from [] e = done
+order_rising from (r ∷ rules) e =
     let h = (and-eq-true_iff (leb from (number_of r)) (in_order (suc (number_of r)) rules)).0 e in
-    rise (leb-true from (number_of r) h.0) (order-rising (suc (number_of r)) rules h.1)
+    rise (leb-true from (number_of r) h.0) (order_rising (suc (number_of r)) rules h.1)
 
-pub rising-above : {from : ℕ} {rules : List Rule} {k : Rule} → Rising from rules → Memᴰ k rules → from ≤ number_of k
-rising-above (rise l r) (Memᴰ.head e) = rw e l
-rising-above (rise l r) (Memᴰ.tail m) = omega (arith, rising-above r m)
-rising-above {k = k} (done {from = from}) x4 = elim x4 [ ]
+pub rising_above : {from : ℕ} {rules : List Rule} {k : Rule} → Rising from rules → Memᴰ k rules → from ≤ number_of k
+rising_above (rise l r) (Memᴰ.head e) = rw e l
+rising_above (rise l r) (Memᴰ.tail m) = omega (arith, rising_above r m)
+rising_above {k = k} (done {from = from}) x4 = elim x4 [ ]
 
-first-least : {r j : Rule} {rules : List Rule} → Rising (suc (number_of r)) rules → Memᴰ j (r ∷ rules) → number_of r ≤ number_of j
-first-least r (Memᴰ.head e) = omega (arith, ap number_of e)
-first-least r (Memᴰ.tail m) = omega (arith, rising-above r m)
+first_least : {r j : Rule} {rules : List Rule} → Rising (suc (number_of r)) rules → Memᴰ j (r ∷ rules) → number_of r ≤ number_of j
+first_least r (Memᴰ.head e) = omega (arith, ap number_of e)
+first_least r (Memᴰ.tail m) = omega (arith, rising_above r m)
 
 -- the rules: acceptance where none has a place, else the first that has one
 module _ (broken : Rule → Found) where
@@ -160,25 +160,25 @@ module _ (broken : Rule → Found) where
     here : {r : Rule} {rules : List Rule} → k ≡ r → broken k ≡ Found.At p → FirstRule k p (r ∷ rules)
     later : {r : Rule} {rules : List Rule} → broken r ≡ Found.Nowhere → FirstRule k p rules → FirstRule k p (r ∷ rules)
 
-  pub accepted-none : (rules : List Rule) → first_refusal broken rules ≡ Answer.Accepted → NoneBroken rules
+  pub accepted_none : (rules : List Rule) → first_refusal broken rules ≡ Answer.Accepted → NoneBroken rules
   unfolding first_refusal
-  accepted-none [] e = none
-  accepted-none (r ∷ rules) e = go (broken r) refl e (accepted-none rules)
+  accepted_none [] e = none
+  accepted_none (r ∷ rules) e = go (broken r) refl e (accepted_none rules)
     where
       go : (f : Found) → broken r ≡ f → refused_at r f (first_refusal broken rules) ≡ Answer.Accepted →
           (first_refusal broken rules ≡ Answer.Accepted → NoneBroken rules) → NoneBroken (r ∷ rules)
-      go (Found.At p) h e ih = refused-not-accepted e
+      go (Found.At p) h e ih = refused_not_accepted e
       go Found.Nowhere h e ih = more h (ih e)
 
-  pub none-accepted : {rules : List Rule} → NoneBroken rules → first_refusal broken rules ≡ Answer.Accepted
+  pub none_accepted : {rules : List Rule} → NoneBroken rules → first_refusal broken rules ≡ Answer.Accepted
   unfolding first_refusal
-  none-accepted none = refl
-  none-accepted (more h u) = rw h (none-accepted u)
+  none_accepted none = refl
+  none_accepted (more h u) = rw h (none_accepted u)
 
-  pub refused-first : (rules : List Rule) {k : Rule} {p : ℕ} → first_refusal broken rules ≡ Answer.Refused k p → FirstRule k p rules
+  pub refused_first : (rules : List Rule) {k : Rule} {p : ℕ} → first_refusal broken rules ≡ Answer.Refused k p → FirstRule k p rules
   unfolding first_refusal
-  refused-first [] e = refused-not-accepted (sym e)
-  refused-first (r ∷ rules) {k} {p} e = go (broken r) refl e (refused-first rules)
+  refused_first [] e = refused_not_accepted (sym e)
+  refused_first (r ∷ rules) {k} {p} e = go (broken r) refl e (refused_first rules)
     where
       go : (f : Found) → broken r ≡ f → refused_at r f (first_refusal broken rules) ≡ Answer.Refused k p →
           (first_refusal broken rules ≡ Answer.Refused k p → FirstRule k p rules) → FirstRule k p (r ∷ rules)
@@ -188,10 +188,10 @@ module _ (broken : Rule → Found) where
           here same (rw (same, h, place))
       go Found.Nowhere h e ih = later h (ih e)
 
-  pub first-refused : {k : Rule} {p : ℕ} {rules : List Rule} → FirstRule k p rules → first_refusal broken rules ≡ Answer.Refused k p
+  pub first_refused : {k : Rule} {p : ℕ} {rules : List Rule} → FirstRule k p rules → first_refusal broken rules ≡ Answer.Refused k p
   unfolding first_refusal
-  first-refused (here same h) = rw (← same, h)
-  first-refused (later h f) = rw h (first-refused f)
+  first_refused (here same h) = rw (← same, h)
+  first_refused (later h f) = rw h (first_refused f)
 
   -- the same by membership
   pub none_each : {rules : List Rule} → NoneBroken rules → (k : Rule) → Memᴰ k rules → broken k ≡ Found.Nowhere
@@ -204,34 +204,34 @@ module _ (broken : Rule → Found) where
   each_none (r ∷ rules) h = more (h r (Memᴰ.head refl)) (each_none rules (λ k m. h k (Memᴰ.tail m)))
 
   -- the same by the rules' numbers, where the list has them in rising order
-  pub first-lower : {k : Rule} {p from : ℕ} {rules : List Rule} → Rising from rules → FirstRule k p rules →
+  pub first_lower : {k : Rule} {p from : ℕ} {rules : List Rule} → Rising from rules → FirstRule k p rules →
       (j : Rule) → Memᴰ j rules → number_of j < number_of k → broken j ≡ Found.Nowhere
-  first-lower (rise l r) (here same h) j m less = absurd (omega (arith, ap number_of same, first-least r m))
-  first-lower (rise l r) (later h f) j (Memᴰ.head e) less = rw e h
-  first-lower (rise l r) (later h f) j (Memᴰ.tail m) less = first-lower r f j m less
-  first-lower {k = k} {p = p} (done {from = from}) x10 j m less = elim x10 [ ]
+  first_lower (rise l r) (here same h) j m less = absurd (omega (arith, ap number_of same, first_least r m))
+  first_lower (rise l r) (later h f) j (Memᴰ.head e) less = rw e h
+  first_lower (rise l r) (later h f) j (Memᴰ.tail m) less = first_lower r f j m less
+  first_lower {k = k} {p = p} (done {from = from}) x10 j m less = elim x10 [ ]
 
-  pub lower-first : {k : Rule} {p from : ℕ} {rules : List Rule} → Rising from rules → Memᴰ k rules → broken k ≡ Found.At p →
+  pub lower_first : {k : Rule} {p from : ℕ} {rules : List Rule} → Rising from rules → Memᴰ k rules → broken k ≡ Found.At p →
       ((j : Rule) → Memᴰ j rules → number_of j < number_of k → broken j ≡ Found.Nowhere) → FirstRule k p rules
-  lower-first (rise l r) (Memᴰ.head e) h n = here e h
-  lower-first {rules = q ∷ rules} (rise l r) (Memᴰ.tail m) h n =
-      later (n q (Memᴰ.head refl) (rising-above r m)) (lower-first r m h (λ j i less. n j (Memᴰ.tail i) less))
-  lower-first {k = k} {p = p} (done {from = from}) x10 h n = elim x10 [ ]
+  lower_first (rise l r) (Memᴰ.head e) h n = here e h
+  lower_first {rules = q ∷ rules} (rise l r) (Memᴰ.tail m) h n =
+      later (n q (Memᴰ.head refl) (rising_above r m)) (lower_first r m h (λ j i less. n j (Memᴰ.tail i) less))
+  lower_first {k = k} {p = p} (done {from = from}) x10 h n = elim x10 [ ]
 
   -- the rule is in the list, and has the place
-  pub first-broken : {k : Rule} {p : ℕ} {rules : List Rule} → FirstRule k p rules → broken k ≡ Found.At p
-  first-broken (here same h) = h
-  first-broken (later h f) = first-broken f
+  pub first_broken_lem : {k : Rule} {p : ℕ} {rules : List Rule} → FirstRule k p rules → broken k ≡ Found.At p
+  first_broken_lem (here same h) = h
+  first_broken_lem (later h f) = first_broken_lem f
 
 -- two ways to look for the place of a rule that agree, one rule after the other, as long as nothing was found
 pub data Agrees (a b : Rule → Found) : List Rule → Type 0 where
-  agree-none : Agrees a b []
-  agree-more : {rule : Rule} {l : List Rule} → a rule ≡ b rule → (a rule ≡ Found.Nowhere → Agrees a b l) → Agrees a b (rule ∷ l)
+  agree_none : Agrees a b []
+  agree_more : {rule : Rule} {l : List Rule} → a rule ≡ b rule → (a rule ≡ Found.Nowhere → Agrees a b l) → Agrees a b (rule ∷ l)
 
-pub same-refusal : {a b : Rule → Found} {rules : List Rule} → Agrees a b rules → first_refusal a rules ≡ first_refusal b rules
+pub same_refusal : {a b : Rule → Found} {rules : List Rule} → Agrees a b rules → first_refusal a rules ≡ first_refusal b rules
 unfolding first_refusal
-same-refusal agree-none = refl
-same-refusal {a} {b} (agree-more {rule} {l} same others) = go (a rule) refl (λ e. same-refusal (others e))
+same_refusal agree_none = refl
+same_refusal {a} {b} (agree_more {rule} {l} same others) = go (a rule) refl (λ e. same_refusal (others e))
   where
     go : (found : Found) → a rule ≡ found → (a rule ≡ Found.Nowhere → first_refusal a l ≡ first_refusal b l) →
         refused_at rule (a rule) (first_refusal a l) ≡ refused_at rule (b rule) (first_refusal b l)
@@ -239,10 +239,10 @@ same-refusal {a} {b} (agree-more {rule} {l} same others) = go (a rule) refl (λ 
     go Found.Nowhere e rest = rw (← same, e) (rest e)
 
 -- rules in two lists, one after the other
-pub refusal-append : (broken : Rule → Found) (a b : List Rule) → first_refusal broken (a ++ b) ≡ after_answer (first_refusal broken a) (first_refusal broken b)
+pub refusal_append : (broken : Rule → Found) (a b : List Rule) → first_refusal broken (a ++ b) ≡ after_answer (first_refusal broken a) (first_refusal broken b)
 unfolding first_refusal
-refusal-append broken [] b = refl
-refusal-append broken (rule ∷ a) b = go (broken rule) (refusal-append broken a b)
+refusal_append broken [] b = refl
+refusal_append broken (rule ∷ a) b = go (broken rule) (refusal_append broken a b)
   where
     go : (found : Found) → first_refusal broken (a ++ b) ≡ after_answer (first_refusal broken a) (first_refusal broken b) →
         refused_at rule found (first_refusal broken (a ++ b)) ≡ after_answer (refused_at rule found (first_refusal broken a)) (first_refusal broken b)

@@ -17,77 +17,77 @@ use Rattle.tagged.specs.Fields.{all_bytes_of}
 use Rattle.tagged.specs.Rows.{row_bytes, row_numbers, all_fit, rows_fit, row_answer}
 use Rattle.tagged.specs.declared.answers.Rule.TheVariants as Rule
 use Rattle.tagged.specs.declared.answers.Answer.TheVariants as Answer
-use Rattle.tagged.proofs.ByteLaws.{bytes-four, four-front, bytes_drop}
+use Rattle.tagged.proofs.ByteLaws.{bytes_four, four_front, bytes_drop}
 use Rattle.tagged.proofs.WriteLaws.{wrote_then}
-use Rattle.tagged.proofs.AllBytesLaws.{bytes-joined}
+use Rattle.tagged.proofs.AllBytesLaws.{bytes_joined}
 
 -- lengths
-pub numbers-length : (n : ℕ) (row : List ℕ) → length (row_numbers n row) ≡ n
+pub numbers_length : (n : ℕ) (row : List ℕ) → length (row_numbers n row) ≡ n
 unfolding row_numbers
-numbers-length zero row = refl
-numbers-length (suc n) row = ap suc (numbers-length n (drop 4 row))
+numbers_length zero row = refl
+numbers_length (suc n) row = ap suc (numbers_length n (drop 4 row))
 
-pub bytes-length : (values : List ℕ) → length (row_bytes values) ≡ 4 * length values
+pub bytes_length : (values : List ℕ) → length (row_bytes values) ≡ 4 * length values
 unfolding all_bytes_of four_bytes
-bytes-length [] = refl
-bytes-length (v ∷ values) = omega (arith, bytes-length values)
+bytes_length [] = refl
+bytes_length (v ∷ values) = omega (arith, bytes_length values)
 
 -- the first numbers of more
-pub numbers-front : (n m : ℕ) (row : List ℕ) → n ≤ m → take n (row_numbers m row) ≡ row_numbers n row
+pub numbers_front : (n m : ℕ) (row : List ℕ) → n ≤ m → take n (row_numbers m row) ≡ row_numbers n row
 unfolding row_numbers
-numbers-front zero m row h = refl
-numbers-front (suc n) zero row h = absurd (omega arith)
-numbers-front (suc n) (suc m) row h = ap (λ (l : List ℕ). four_of row ∷ l) (numbers-front n m (drop 4 row) (omega arith))
+numbers_front zero m row h = refl
+numbers_front (suc n) zero row h = absurd (omega arith)
+numbers_front (suc n) (suc m) row h = ap (λ (l : List ℕ). four_of row ∷ l) (numbers_front n m (drop 4 row) (omega arith))
 
 -- what is written is read back
 pub row_back : (values after : List ℕ) → ((i : ℕ) → get_or values i 0 < 2 ^ 32) → row_numbers (length values) (row_bytes values ++ after) ≡ values
 unfolding row_numbers all_bytes_of four_bytes
 row_back [] after h = refl
-row_back (v ∷ values) after h = ap₂ (λ x l. x ∷ l) (four-front v (row_bytes values ++ after) (h 0)) (row_back values after (λ i. h (suc i)))
+row_back (v ∷ values) after h = ap₂ (λ x l. x ∷ l) (four_front v (row_bytes values ++ after) (h 0)) (row_back values after (λ i. h (suc i)))
 
 -- what is read is written back
-pub row-bytes : (n : ℕ) (row : List ℕ) → AllBytes row → length row ≡ 4 * n → row_bytes (row_numbers n row) ≡ row
+pub row_bytes_lem : (n : ℕ) (row : List ℕ) → AllBytes row → length row ≡ 4 * n → row_bytes (row_numbers n row) ≡ row
 unfolding row_numbers all_bytes_of four_of
-row-bytes zero [] h e = refl
-row-bytes zero (a ∷ row) h e = absurd (omega arith)
-row-bytes (suc n) [] h e = absurd (omega arith)
-row-bytes (suc n) (a ∷ []) h e = absurd (omega arith)
-row-bytes (suc n) (a ∷ b ∷ []) h e = absurd (omega arith)
-row-bytes (suc n) (a ∷ b ∷ c ∷ []) h e = absurd (omega arith)
-row-bytes (suc n) (a ∷ b ∷ c ∷ d ∷ row) h e =
+row_bytes_lem zero [] h e = refl
+row_bytes_lem zero (a ∷ row) h e = absurd (omega arith)
+row_bytes_lem (suc n) [] h e = absurd (omega arith)
+row_bytes_lem (suc n) (a ∷ []) h e = absurd (omega arith)
+row_bytes_lem (suc n) (a ∷ b ∷ []) h e = absurd (omega arith)
+row_bytes_lem (suc n) (a ∷ b ∷ c ∷ []) h e = absurd (omega arith)
+row_bytes_lem (suc n) (a ∷ b ∷ c ∷ d ∷ row) h e =
     let less : length row ≡ 4 * n = omega arith in
-    ap₂ ◌++◌ (bytes-four a b c d (h 0) (h 1) (h 2) (h 3)) (row-bytes n row (bytes_drop 4 (a ∷ b ∷ c ∷ d ∷ row) h) less)
+    ap₂ ◌++◌ (bytes_four a b c d (h 0) (h 1) (h 2) (h 3)) (row_bytes_lem n row (bytes_drop 4 (a ∷ b ∷ c ∷ d ∷ row) h) less)
 
 -- a row that fits
-pub fits-length : (widths row : List ℕ) → all_fit widths row ≡ true → length row ≡ length widths
+pub fits_length : (widths row : List ℕ) → all_fit widths row ≡ true → length row ≡ length widths
 unfolding all_fit
-fits-length [] [] e = refl
-fits-length [] (v ∷ row) e = absurd (false≢true e)
-fits-length (w ∷ widths) [] e = absurd (false≢true e)
-fits-length (w ∷ widths) (v ∷ row) e = ap suc (fits-length widths row ((and-eq-true_iff (fits_width w v) (all_fit widths row)).0 e).1)
+fits_length [] [] e = refl
+fits_length [] (v ∷ row) e = absurd (false≢true e)
+fits_length (w ∷ widths) [] e = absurd (false≢true e)
+fits_length (w ∷ widths) (v ∷ row) e = ap suc (fits_length widths row ((and-eq-true_iff (fits_width w v) (all_fit widths row)).0 e).1)
 
-pub fits-at : (widths row : List ℕ) (i : ℕ) → all_fit widths row ≡ true → i < length widths → get_or row i 0 < 2 ^ get_or widths i 0
+pub fits_at : (widths row : List ℕ) (i : ℕ) → all_fit widths row ≡ true → i < length widths → get_or row i 0 < 2 ^ get_or widths i 0
 unfolding all_fit
-fits-at [] row i e h = absurd (omega arith)
-fits-at (w ∷ widths) [] i e h = absurd (false≢true e)
-fits-at (w ∷ widths) (v ∷ row) zero e h = ltb-true v (2 ^ w) ((and-eq-true_iff (fits_width w v) (all_fit widths row)).0 e).0
-fits-at (w ∷ widths) (v ∷ row) (suc i) e h = fits-at widths row i ((and-eq-true_iff (fits_width w v) (all_fit widths row)).0 e).1 (omega arith)
+fits_at [] row i e h = absurd (omega arith)
+fits_at (w ∷ widths) [] i e h = absurd (false≢true e)
+fits_at (w ∷ widths) (v ∷ row) zero e h = ltb-true v (2 ^ w) ((and-eq-true_iff (fits_width w v) (all_fit widths row)).0 e).0
+fits_at (w ∷ widths) (v ∷ row) (suc i) e h = fits_at widths row i ((and-eq-true_iff (fits_width w v) (all_fit widths row)).0 e).1 (omega arith)
 
 -- the number at an index of a row of n, as the code reads it
 module _ (row : List ℕ) (n at : ℕ) (part : List ℕ) (number : ℕ) (from : part ≡ drop (4 * at) row) (of : number ≡ four_of part) (h : at < n) where
-  pub number-next : row_numbers (n - at) (drop (4 * at) row) ≡ number ∷ row_numbers (n - (at + 1)) (drop (4 * (at + 1)) row)
+  pub number_next : row_numbers (n - at) (drop (4 * at) row) ≡ number ∷ row_numbers (n - (at + 1)) (drop (4 * (at + 1)) row)
   unfolding row_numbers
-  number-next =
+  number_next =
       let more : n - at ≡ suc (n - (at + 1)) = omega arith in
       let past : 4 * at + 4 ≡ 4 * (at + 1) = omega arith in
       rw (more, drop-drop 4 (4 * at) row, past, of, from)
 
   -- reading: the numbers read so far and those still in the row are the row's
-  pub read-turn : (values : List ℕ) → length values ≡ n → take at values ++ row_numbers (n - at) (drop (4 * at) row) ≡ row_numbers n row →
+  pub read_turn : (values : List ℕ) → length values ≡ n → take at values ++ row_numbers (n - at) (drop (4 * at) row) ≡ row_numbers n row →
       take (at + 1) (set values at number) ++ row_numbers (n - (at + 1)) (drop (4 * (at + 1)) row) ≡ row_numbers n row
-  read-turn values e going =
+  read_turn values e going =
       let h' : at < length values = omega arith in
-      rw (add-one, take-suc-set values at number h', append_assoc) (rw (number-next, add-one) at going)
+      rw (add-one, take-suc-set values at number h', append_assoc) (rw (number_next, add-one) at going)
 
 pub read_done : (row values : List ℕ) (n at : ℕ) → length values ≡ n → n ≤ at →
     take at values ++ row_numbers (n - at) (drop (4 * at) row) ≡ row_numbers n row → values ≡ row_numbers n row
@@ -98,10 +98,10 @@ read_done row values n at e h going =
     rw (none, take_all at values all, append-nil) at going
 
 -- writing: the values written so far, and one more
-pub write-turn : {o o₁ o₂ : List ℕ} {i i₁ i₂ : ℕ} (values : List ℕ) (at : ℕ) → at < length values →
+pub write_turn : {o o₁ o₂ : List ℕ} {i i₁ i₂ : ℕ} (values : List ℕ) (at : ℕ) → at < length values →
     Wrote o i (row_bytes (take at values)) o₁ i₁ → Wrote o₁ i₁ (four_bytes (get_or values at 0)) o₂ i₂ → Wrote o i (row_bytes (take (at + 1) values)) o₂ i₂
 unfolding all_bytes_of
-write-turn values at h w v = rw (add-one, take-suc values at 0 h, bytes-joined four_bytes, append-nil) (wrote_then w v)
+write_turn values at h w v = rw (add-one, take-suc values at 0 h, bytes_joined four_bytes, append-nil) (wrote_then w v)
 
 pub write_done : {o o₁ : List ℕ} {i i₁ : ℕ} (values : List ℕ) (at : ℕ) → length values ≤ at →
     Wrote o i (row_bytes (take at values)) o₁ i₁ → o₁ ≡ sets o i (row_bytes values)
@@ -113,9 +113,9 @@ pub record RowAccepted (widths row : List ℕ) (next_length : ℕ) : Type 0 wher
   pub next : next_length ≡ 4 * length widths
   pub fits : all_fit widths (row_numbers (length widths) row) ≡ true
 
-pub row-accepted : (widths row : List ℕ) (next_length : ℕ) → row_answer widths row next_length ≡ Answer.Accepted → RowAccepted widths row next_length
+pub row_accepted : (widths row : List ℕ) (next_length : ℕ) → row_answer widths row next_length ≡ Answer.Accepted → RowAccepted widths row next_length
 unfolding row_answer rows_fit
-row-accepted widths row next_length e = go (rows_fit widths row next_length) refl e
+row_accepted widths row next_length e = go (rows_fit widths row next_length) refl e
   where
     go : (t : Bool) → rows_fit widths row next_length ≡ t → cond t Answer.Accepted (Answer.Refused Rule.Row 0) ≡ Answer.Accepted → RowAccepted widths row next_length
     go false p q = absurd (let z : ◌≡◌ {A = ℕ} 0 1 = cc in omega arith)
@@ -125,34 +125,34 @@ row-accepted widths row next_length e = go (rows_fit widths row next_length) ref
         record { long = eqb-true _ _ each.0; next = eqb-true _ _ each.1; fits = both.1 }
 
 -- testing: both lengths
-pub fits-start : (widths row : List ℕ) (next_length : ℕ) → length row ≡ 4 * length widths → next_length ≡ 4 * length widths →
+pub fits_start : (widths row : List ℕ) (next_length : ℕ) → length row ≡ 4 * length widths → next_length ≡ 4 * length widths →
     all_fit widths (row_numbers (length widths - 0) row) ≡ rows_fit widths row next_length
 unfolding rows_fit
-fits-start widths row next_length e f = rw (sub-zero, eq-eqb _ _ e, eq-eqb _ _ f)
+fits_start widths row next_length e f = rw (sub-zero, eq-eqb _ _ e, eq-eqb _ _ f)
 
-pub row-length-off : (widths row : List ℕ) (next_length : ℕ) → (length row ≡ 4 * length widths → ⊥) → false ≡ rows_fit widths row next_length
+pub row_length_off : (widths row : List ℕ) (next_length : ℕ) → (length row ≡ 4 * length widths → ⊥) → false ≡ rows_fit widths row next_length
 unfolding rows_fit
-row-length-off widths row next_length ne = rw (ne_eqb _ _ ne)
+row_length_off widths row next_length ne = rw (ne_eqb _ _ ne)
 
-pub next-length-off : (widths row : List ℕ) (next_length : ℕ) → (next_length ≡ 4 * length widths → ⊥) → false ≡ rows_fit widths row next_length
+pub next_length_off : (widths row : List ℕ) (next_length : ℕ) → (next_length ≡ 4 * length widths → ⊥) → false ≡ rows_fit widths row next_length
 unfolding rows_fit
-next-length-off widths row next_length ne = rw (ne_eqb _ _ ne, and-false)
+next_length_off widths row next_length ne = rw (ne_eqb _ _ ne, and-false)
 
 -- testing: the numbers still to be tested decide
 module _ (widths row : List ℕ) (whole : Bool) (at : ℕ) (going : all_fit (drop at widths) (row_numbers (length widths - at) (drop (4 * at) row)) ≡ whole) where
-  pub fits-done : length widths ≤ at → true ≡ whole
+  pub fits_done : length widths ≤ at → true ≡ whole
   unfolding row_numbers all_fit
-  fits-done h =
+  fits_done h =
       let none : length widths - at ≡ 0 = omega arith in
       rw (none, drop_of_length-le widths h) at going
 
   module _ (part : List ℕ) (number : ℕ) (from : part ≡ drop (4 * at) row) (of : number ≡ four_of part) (h : at < length widths) (fits : Bool) (so : fits ≡ fits_width (get_or widths at 0) number) where
     pub fits_next : fits && all_fit (drop (at + 1) widths) (row_numbers (length widths - (at + 1)) (drop (4 * (at + 1)) row)) ≡ whole
     unfolding all_fit
-    fits_next = rw (so, add-one) (rw (number-next row (length widths) at part number from of h, drop-cons widths at 0 h, add-one) at going)
+    fits_next = rw (so, add-one) (rw (number_next row (length widths) at part number from of h, drop-cons widths at 0 h, add-one) at going)
 
-    pub fits-turn : fits ≡ true → all_fit (drop (at + 1) widths) (row_numbers (length widths - (at + 1)) (drop (4 * (at + 1)) row)) ≡ whole
-    fits-turn e = rw e at fits_next
+    pub fits_turn : fits ≡ true → all_fit (drop (at + 1) widths) (row_numbers (length widths - (at + 1)) (drop (4 * (at + 1)) row)) ≡ whole
+    fits_turn e = rw e at fits_next
 
-    pub fits-stop : fits ≡ false → false ≡ whole
-    fits-stop e = rw e at fits_next
+    pub fits_stop : fits ≡ false → false ≡ whole
+    fits_stop e = rw e at fits_next

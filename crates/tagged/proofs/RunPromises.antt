@@ -14,22 +14,22 @@ module _ (answer : Answer) (widths row next : List ℕ) (cycle : Outcome (List �
   abbrev Kept : Answer → List ℕ → Type 0
   Kept given lent = Promise (run_answer_of answer widths row (length next)) (row_left (run_answer_of answer widths row (length next)) cycle next) given lent
 
-  pub run-refused : (rule : Rule) (place : ℕ) → first ≡ Answer.Refused rule place → Kept (Answer.Refused rule place) next
+  pub run_refused : (rule : Rule) (place : ℕ) → first ≡ Answer.Refused rule place → Kept (Answer.Refused rule place) next
   unfolding run_answer_of
-  run-refused rule place e = let refused : answer ≡ Answer.Refused rule place = sym answered ∙ e in record { answered = rw refused; leaves = rw refused }
+  run_refused rule place e = let refused : answer ≡ Answer.Refused rule place = sym answered ∙ e in record { answered = rw refused; leaves = rw refused }
 
   module _ (accepted : first ≡ Answer.Accepted) (rows : Answer) (told : rows ≡ row_answer widths row (length next)) where
     read : answer ≡ Answer.Accepted
     read = sym answered ∙ accepted
 
-    pub row-refused : (rule : Rule) (place : ℕ) → rows ≡ Answer.Refused rule place → Kept (Answer.Refused rule place) next
+    pub row_refused : (rule : Rule) (place : ℕ) → rows ≡ Answer.Refused rule place → Kept (Answer.Refused rule place) next
     unfolding run_answer_of
-    row-refused rule place e =
+    row_refused rule place e =
         let refused : row_answer widths row (length next) ≡ Answer.Refused rule place = sym told ∙ e in
         record { answered = rw (read, refused); leaves = rw (read, refused) }
 
-    pub run-accepted : rows ≡ Answer.Accepted → (left : List ℕ) → left ≡ row_left Answer.Accepted cycle next → Kept Answer.Accepted left
+    pub run_accepted : rows ≡ Answer.Accepted → (left : List ℕ) → left ≡ row_left Answer.Accepted cycle next → Kept Answer.Accepted left
     unfolding run_answer_of
-    run-accepted e left ran =
+    run_accepted e left ran =
         let fits : row_answer widths row (length next) ≡ Answer.Accepted = sym told ∙ e in
         record { answered = rw (read, fits); leaves = ran ∙ rw (read, fits) }

@@ -30,23 +30,23 @@ neither false b e = (refl, e)
 pub not_first : (a b : Bool) → a ≡ false → (a && b) ≡ false
 not_first a b e = rw e
 
-pub not-second : (a : Bool) {b : Bool} → b ≡ false → (a && b) ≡ false
-not-second a e = rw e (and-false a)
+pub not_second : (a : Bool) {b : Bool} → b ≡ false → (a && b) ≡ false
+not_second a e = rw e (and-false a)
 
-pub not-both : {C : Type 0} (a b : Bool) → (a && b) ≡ false → (a ≡ false → C) → (b ≡ false → C) → C
-not-both true b e f g = g e
-not-both false b e f g = f refl
+pub not_both : {C : Type 0} (a b : Bool) → (a && b) ≡ false → (a ≡ false → C) → (b ≡ false → C) → C
+not_both true b e f g = g e
+not_both false b e f g = f refl
 
 -- a test that does not hold, turned round
 pub not_so : {t : Bool} → t ≡ false → not t ≡ true
 not_so e = rw e
 
-pub not-not-so : {t : Bool} → t ≡ true → not t ≡ false
-not-not-so e = rw e
+pub not_not_so : {t : Bool} → t ≡ true → not t ≡ false
+not_not_so e = rw e
 
 -- numbers that differ
 pub unlike : (a b : ℕ) → (a ≡ b → ⊥) → not (eqb a b) ≡ true
 unlike a b n = not_so (ne_eqb a b n)
 
-pub unlike-ne : (a b : ℕ) → not (eqb a b) ≡ true → a ≡ b → ⊥
-unlike-ne a b e = eqb-false a b (not-true (eqb a b) e)
+pub unlike_ne : (a b : ℕ) → not (eqb a b) ≡ true → a ≡ b → ⊥
+unlike_ne a b e = eqb-false a b (not-true (eqb a b) e)

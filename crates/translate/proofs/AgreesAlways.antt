@@ -13,27 +13,27 @@ use Rattle.verilog.specs.Tree.{Module}
 use Rattle.verilog.specs.Cycle.{module_cycle}
 use Rattle.verilog.proofs.Typed.{TypedModule}
 use Rattle.translate.specs.Translation.{netlist_of}
-use Rattle.tagged.proofs.CycleLaws.{with-inputs-fits}
+use Rattle.tagged.proofs.CycleLaws.{with_inputs_fits}
 use Rattle.translate.proofs.Agrees.{Agree, agrees}
 
 -- with these input rows, the module and its netlist both go on through every cycle, and give the same rows
 pub record AgreeAlways (m : Module) (row : List ℕ) (inputs : List (List ℕ)) : Type 0 where
   pub rows : List (List ℕ)
-  pub module-gives : cycles_by (module_cycle m) m.declarations row inputs ≡ got rows
-  pub netlist-gives : cycles_by (netlist_cycle (netlist_of m)) m.declarations row inputs ≡ got rows
+  pub module_gives : cycles_by (module_cycle m) m.declarations row inputs ≡ got rows
+  pub netlist_gives : cycles_by (netlist_cycle (netlist_of m)) m.declarations row inputs ≡ got rows
 
 -- MANY CYCLES
-pub agrees-always : (m : Module) → TypedModule m → (row : List ℕ) → all_fit (map width_of m.declarations) row ≡ true → (inputs : List (List ℕ)) →
+pub agrees_always : (m : Module) → TypedModule m → (row : List ℕ) → all_fit (map width_of m.declarations) row ≡ true → (inputs : List (List ℕ)) →
     ((i : List ℕ) → Memᴰ i inputs → inputs_fit m.declarations i ≡ true) → AgreeAlways m row inputs
 unfolding cycles_by
-agrees-always m typed row e [] each = record { rows = []; module-gives = refl; netlist-gives = refl }
-agrees-always m typed row e (inputs ∷ later) each =
+agrees_always m typed row e [] each = record { rows = []; module_gives = refl; netlist_gives = refl }
+agrees_always m typed row e (inputs ∷ later) each =
     let ds : List Declaration = m.declarations in
     let from : List ℕ = with_inputs ds inputs row in
-    let now : Agree m from = agrees m typed from (with-inputs-fits ds inputs row (each inputs (Memᴰ.head refl)) e) in
-    let rest : AgreeAlways m now.next later = agrees-always m typed now.next now.fits later (λ i k. each i (Memᴰ.tail k)) in
+    let now : Agree m from = agrees m typed from (with_inputs_fits ds inputs row (each inputs (Memᴰ.head refl)) e) in
+    let rest : AgreeAlways m now.next later = agrees_always m typed now.next now.fits later (λ i k. each i (Memᴰ.tail k)) in
     record {
       rows = now.next ∷ rest.rows;
-      module-gives = rw (now.module-gives, rest.module-gives);
-      netlist-gives = rw (now.netlist-gives, rest.netlist-gives);
+      module_gives = rw (now.module_gives, rest.module_gives);
+      netlist_gives = rw (now.netlist_gives, rest.netlist_gives);
     }

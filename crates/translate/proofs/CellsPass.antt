@@ -8,7 +8,7 @@ use Rattle.words.specs.Widths.{is_width, index_within}
 use Rattle.words.specs.Operators.{one_width, two_width}
 use Rattle.words.specs.declared.OneOperand.{OneOperand}
 use Rattle.words.specs.declared.TwoOperand.{TwoOperand}
-use Rattle.words.proofs.WidthLaws.{one_width_lem, two-width}
+use Rattle.words.proofs.WidthLaws.{one_width_lem, two_width_lem}
 use Rattle.tagged.specs.Declarations.{Declaration}
 use Rattle.tagged.specs.declared.answers.Rule.TheVariants as Rule
 use Rattle.netlist.specs.Lists.{operand_width}
@@ -26,36 +26,36 @@ module _ (ds : List Declaration) where
     pub bit : cell_breaks Rule.BitNumber ds earlier c ≡ false
 
   module _ {earlier : List Cell} {a : Operand} {w : ℕ} (x : GoodOperand ds earlier a w) where
-    own-width : is_width (operand_width a) ≡ true
-    own-width = rw x.wide x.width
+    own_width : is_width (operand_width a) ≡ true
+    own_width = rw x.wide x.width
 
     pub one_passes : (op : OneOperand) → CellPasses earlier (Cell.One op (one_width op (operand_width a)) a)
     unfolding cell_breaks cell_unlike cell_outside
     one_passes op = record {
-      value = rw (one_width_lem op (operand_width a) own-width, x.value);
+      value = rw (one_width_lem op (operand_width a) own_width, x.value);
       reference = rw x.there;
       widths = rw (x.like, eq-eqb (one_width op (operand_width a)) (one_width op (operand_width a)) refl);
       bit = refl;
     }
 
-    pub fixed-passes : (k : ℕ) → k < w → CellPasses earlier (Cell.FixedBit 1 a k)
+    pub fixed_passes : (k : ℕ) → k < w → CellPasses earlier (Cell.FixedBit 1 a k)
     unfolding cell_breaks cell_unlike cell_outside
-    fixed-passes k h = record { value = rw x.value; reference = rw x.there; widths = rw x.like; bit = lt-leb (operand_width a) k (rw x.wide h) }
+    fixed_passes k h = record { value = rw x.value; reference = rw x.there; widths = rw x.like; bit = lt-leb (operand_width a) k (rw x.wide h) }
 
     module _ {b : Operand} {u : ℕ} (y : GoodOperand ds earlier b u) where
-      pub chosen-passes : index_within u w ≡ true → CellPasses earlier (Cell.ChosenBit 1 a b)
+      pub chosen_passes : index_within u w ≡ true → CellPasses earlier (Cell.ChosenBit 1 a b)
       unfolding cell_breaks cell_unlike cell_outside
-      chosen-passes h = record {
+      chosen_passes h = record {
         value = rw (x.value, y.value);
         reference = rw (x.there, y.there);
         widths = rw (x.like, y.like);
         bit = rw (x.wide, y.wide, h);
       }
 
-      pub two-passes : (op : TwoOperand) → w ≡ u → CellPasses earlier (Cell.Two op (two_width op (operand_width a)) a b)
+      pub two_passes : (op : TwoOperand) → w ≡ u → CellPasses earlier (Cell.Two op (two_width op (operand_width a)) a b)
       unfolding cell_breaks cell_unlike cell_outside
-      two-passes op e = record {
-        value = rw (two-width op (operand_width a) own-width, x.value, y.value);
+      two_passes op e = record {
+        value = rw (two_width_lem op (operand_width a) own_width, x.value, y.value);
         reference = rw (x.there, y.there);
         widths =
             rw (
@@ -67,19 +67,19 @@ module _ (ds : List Declaration) where
         bit = refl;
       }
 
-      pub put-passes : (k : ℕ) → k < w → u ≡ 1 → CellPasses earlier (Cell.Put (operand_width a) a k b)
+      pub put_passes : (k : ℕ) → k < w → u ≡ 1 → CellPasses earlier (Cell.Put (operand_width a) a k b)
       unfolding cell_breaks cell_unlike cell_outside
-      put-passes k h e = record {
-        value = rw (own-width, x.value, y.value);
+      put_passes k h e = record {
+        value = rw (own_width, x.value, y.value);
         reference = rw (x.there, y.there);
         widths = rw (x.like, y.like, eq-eqb (operand_width a) (operand_width a) refl, eq-eqb (operand_width b) 1 (y.wide ∙ e));
         bit = lt-leb (operand_width a) k (rw x.wide h);
       }
 
-      pub mux-passes : {c : Operand} → GoodOperand ds earlier c 1 → w ≡ u → CellPasses earlier (Cell.Mux (operand_width a) c a b)
+      pub mux_passes : {c : Operand} → GoodOperand ds earlier c 1 → w ≡ u → CellPasses earlier (Cell.Mux (operand_width a) c a b)
       unfolding cell_breaks cell_unlike cell_outside
-      mux-passes {c} z e = record {
-        value = rw (own-width, z.value, x.value, y.value);
+      mux_passes {c} z e = record {
+        value = rw (own_width, z.value, x.value, y.value);
         reference = rw (z.there, x.there, y.there);
         widths =
             rw (

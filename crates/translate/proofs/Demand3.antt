@@ -15,21 +15,21 @@ use Rattle.tagged.specs.declared.answers.Answer.TheVariants as Answer
 use Rattle.netlist.specs.Answer.{netlist_answer}
 use Rattle.netlist.specs.Reading.{netlist_in}
 use Rattle.netlist.specs.Cycle.{netlist_cycle}
-use Rattle.netlist.proofs.NetlistBytes.{read-written}
-use Rattle.netlist.proofs.Accepted.{accepted-bytes}
-use Rattle.netlist.proofs.RulesFit.{lists-accepted}
+use Rattle.netlist.proofs.NetlistBytes.{read_written}
+use Rattle.netlist.proofs.Accepted.{accepted_bytes}
+use Rattle.netlist.proofs.RulesFit.{lists_accepted}
 use Rattle.verilog.specs.Reading.{module_in}
 use Rattle.verilog.specs.Answer.{module_answer}
 use Rattle.verilog.specs.Cycle.{module_cycle}
 use Rattle.verilog.specs.Quiet.{quiet_cycles}
 use Rattle.verilog.proofs.Typed.{TypedModule}
 use Rattle.netlist.specs.Fits.{WithoutRefusal}
-use Rattle.verilog.proofs.AcceptedTyped.{accepted-typed}
-use Rattle.verilog.proofs.NeverStops.{typed-cycles-run, typed-cycles-quiet}
+use Rattle.verilog.proofs.AcceptedTyped.{accepted_typed}
+use Rattle.verilog.proofs.NeverStops.{typed_cycles_run, typed_cycles_quiet}
 use Rattle.translate.specs.Answer.{netlist_of_file, translated_bytes, cell_count}
-use Rattle.verilog.proofs.AcceptedModule.{accepted-tree}
-use Rattle.translate.proofs.NetlistAccepted.{file-netlist-accepted}
-use Rattle.translate.proofs.AgreesAlways.{agrees-always}
+use Rattle.verilog.proofs.AcceptedModule.{accepted_tree}
+use Rattle.translate.proofs.NetlistAccepted.{file_netlist_accepted}
+use Rattle.translate.proofs.AgreesAlways.{agrees_always}
 
 -- the variables that a module file declares, and their widths
 abbrev pub declared : List ℕ → List Declaration
@@ -42,8 +42,8 @@ widths file = map width_of (declared file)
 pub record Agreement (file row : List ℕ) (inputs : List (List ℕ)) : Type 0 where
   -- the rows after each cycle, the same for both: neither run stops
   pub rows : List (List ℕ)
-  pub module-gives : cycles_by (module_cycle (module_in file)) (declared file) row inputs ≡ got rows
-  pub netlist-gives : cycles_by (netlist_cycle (netlist_in (translated_bytes file))) (declared file) row inputs ≡ got rows
+  pub module_gives : cycles_by (module_cycle (module_in file)) (declared file) row inputs ≡ got rows
+  pub netlist_gives : cycles_by (netlist_cycle (netlist_in (translated_bytes file))) (declared file) row inputs ≡ got rows
   -- one for each cycle, and each fits
   pub one_each : length rows ≡ length inputs
   pub each_fits : (r : List ℕ) → Memᴰ r rows → all_fit (widths file) r ≡ true
@@ -58,29 +58,29 @@ pub record Demand3 (file : List ℕ) : Type 0 where
   pub cycles : (row : List ℕ) → all_fit (widths file) row ≡ true → (inputs : List (List ℕ)) →
       ((i : List ℕ) → Memᴰ i inputs → inputs_fit (declared file) i ≡ true) → Agreement file row inputs
 
-pub demand-3 : (file : List ℕ) → module_answer file ≡ Answer.Accepted → cell_count file ≤ most_cells → Demand3 file
-demand-3 file accepted small = record {
-  accepted = accepted-bytes (netlist_of_file file) unrefused;
+pub demand_3 : (file : List ℕ) → module_answer file ≡ Answer.Accepted → cell_count file ≤ most_cells → Demand3 file
+demand_3 file accepted small = record {
+  accepted = accepted_bytes (netlist_of_file file) unrefused;
   lists = back;
   cycles = λ row fits inputs each.
-      let both = agrees-always (module_in file) typed row fits inputs each in
-      let run = typed-cycles-run (module_in file) typed row fits inputs each in
-      let same : both.rows ≡ run.rows = cc (both.module-gives, run.runs) in
+      let both = agrees_always (module_in file) typed row fits inputs each in
+      let run = typed_cycles_run (module_in file) typed row fits inputs each in
+      let same : both.rows ≡ run.rows = cc (both.module_gives, run.runs) in
       record {
         rows = run.rows;
-        module-gives = run.runs;
-        netlist-gives = ap (λ n. cycles_by (netlist_cycle n) (declared file) row inputs) back ∙ both.netlist-gives ∙ ap got same;
+        module_gives = run.runs;
+        netlist_gives = ap (λ n. cycles_by (netlist_cycle n) (declared file) row inputs) back ∙ both.netlist_gives ∙ ap got same;
         one_each = run.many;
         each_fits = run.fit;
-        quiet = typed-cycles-quiet (module_in file) typed row fits inputs each;
+        quiet = typed_cycles_quiet (module_in file) typed row fits inputs each;
       };
 }
   where
     typed : TypedModule (module_in file)
-    typed = accepted-typed 3 (module_in file) (accepted-tree file accepted)
+    typed = accepted_typed 3 (module_in file) (accepted_tree file accepted)
 
     unrefused : WithoutRefusal (netlist_of_file file)
-    unrefused = lists-accepted (netlist_of_file file) (file-netlist-accepted file accepted typed small)
+    unrefused = lists_accepted (netlist_of_file file) (file_netlist_accepted file accepted typed small)
 
     back : netlist_in (translated_bytes file) ≡ netlist_of_file file
-    back = (read-written (netlist_of_file file) unrefused.fits).1
+    back = (read_written (netlist_of_file file) unrefused.fits).1

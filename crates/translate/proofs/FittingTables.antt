@@ -7,9 +7,9 @@ use Prim.Native.Nat.{ℕ, zero, suc, ◌+◌, ◌^◌, ◌<◌, ◌≤◌}
 use native.Mathlib.Omega.{arith}
 use lib.ListN.{length, set, length-append, length-set}
 use Rattle.words.specs.declared.OneOperand.{OneOperand}
-use Rattle.words.specs.declared.OneOperand.TheVariants as one-operand
+use Rattle.words.specs.declared.OneOperand.TheVariants as one_operand_lem
 use Rattle.words.specs.declared.TwoOperand.{TwoOperand}
-use Rattle.words.specs.declared.TwoOperand.TheVariants as two-operand
+use Rattle.words.specs.declared.TwoOperand.TheVariants as two_operand
 use Rattle.words.specs.Operators.{one_width, two_width}
 use Rattle.tagged.specs.Declarations.{Declaration}
 use Rattle.tagged.specs.declared.sorts.Kind.{Kind}
@@ -24,106 +24,106 @@ use Rattle.translate.specs.Translation.{Emitted, translate_expression}
 
 -- tables of so many variables, whose operands all fit a word
 pub record FitsTables (count : ℕ) (t : Tables) : Type 0 where
-  pub current-count : length t.current ≡ count
-  pub pending-count : length t.pending ≡ count
+  pub current_count : length t.current ≡ count
+  pub pending_count : length t.pending ≡ count
   pub current : Every FitsOperand t.current
   pub pending : Every FitsOperand t.pending
 
 -- each variable itself
 
-themselves-count : (v : ℕ) (ds : List Declaration) → length (themselves v ds) ≡ length ds
+themselves_count : (v : ℕ) (ds : List Declaration) → length (themselves v ds) ≡ length ds
 unfolding themselves
-themselves-count v [] = refl
-themselves-count v (d ∷ ds) = ap suc (themselves-count (v + 1) ds)
+themselves_count v [] = refl
+themselves_count v (d ∷ ds) = ap suc (themselves_count (v + 1) ds)
 
-themselves-fit : (v : ℕ) (ds : List Declaration) → All FitsDeclaration ds → v + length ds ≤ 2 ^ 32 → Every FitsOperand (themselves v ds)
+themselves_fit : (v : ℕ) (ds : List Declaration) → All FitsDeclaration ds → v + length ds ≤ 2 ^ 32 → Every FitsOperand (themselves v ds)
 unfolding themselves All FitsDeclaration
-themselves-fit v [] fits h = tt
-themselves-fit v (d ∷ ds) fits h = ((fits.0.0, omega arith), themselves-fit (v + 1) ds fits.1 (omega arith))
+themselves_fit v [] fits h = tt
+themselves_fit v (d ∷ ds) fits h = ((fits.0.0, omega arith), themselves_fit (v + 1) ds fits.1 (omega arith))
 
 pub start_fits : (ds : List Declaration) → All FitsDeclaration ds → length ds ≤ 2 ^ 32 →
     FitsTables (length ds) (record { current = themselves 0 ds; pending = themselves 0 ds })
 start_fits ds fits h =
-    let all : Every FitsOperand (themselves 0 ds) = themselves-fit 0 ds fits (omega arith) in
-    record { current-count = themselves-count 0 ds; pending-count = themselves-count 0 ds; current = all; pending = all }
+    let all : Every FitsOperand (themselves 0 ds) = themselves_fit 0 ds fits (omega arith) in
+    record { current_count = themselves_count 0 ds; pending_count = themselves_count 0 ds; current = all; pending = all }
 
 -- what a table holds, and what it holds after a replacement
 
-pub operand-fits : (table : List Operand) → Every FitsOperand table → (v : ℕ) → FitsOperand (operand_at table v)
-operand-fits [] f v = (omega arith, omega arith)
-operand-fits (o ∷ table) f zero = f.0
-operand-fits (o ∷ table) f (suc v) = operand-fits table f.1 v
+pub operand_fits : (table : List Operand) → Every FitsOperand table → (v : ℕ) → FitsOperand (operand_at table v)
+operand_fits [] f v = (omega arith, omega arith)
+operand_fits (o ∷ table) f zero = f.0
+operand_fits (o ∷ table) f (suc v) = operand_fits table f.1 v
 
-set-fits : (table : List Operand) → Every FitsOperand table → (v : ℕ) (o : Operand) → FitsOperand o → Every FitsOperand (set table v o)
-set-fits [] f v o g = tt
-set-fits (x ∷ table) f zero o g = (g, f.1)
-set-fits (x ∷ table) f (suc v) o g = (f.0, set-fits table f.1 v o g)
+set_fits : (table : List Operand) → Every FitsOperand table → (v : ℕ) (o : Operand) → FitsOperand o → Every FitsOperand (set table v o)
+set_fits [] f v o g = tt
+set_fits (x ∷ table) f zero o g = (g, f.1)
+set_fits (x ∷ table) f (suc v) o g = (f.0, set_fits table f.1 v o g)
 
 module _ {count : ℕ} {t : Tables} (f : FitsTables count t) (v : ℕ) where
   pub held_fits : (kind : Kind) → FitsOperand (held_operand kind t v)
-  held_fits Kind.Blocking = operand-fits t.current f.current v
-  held_fits Kind.NonBlocking = operand-fits t.pending f.pending v
+  held_fits Kind.Blocking = operand_fits t.current f.current v
+  held_fits Kind.NonBlocking = operand_fits t.pending f.pending v
 
-  pub replaced-fits : (kind : Kind) (o : Operand) → FitsOperand o → FitsTables count (replaced kind t v o)
-  replaced-fits Kind.Blocking o g = record {
-    current-count = length-set t.current v o ∙ f.current-count;
-    pending-count = f.pending-count;
-    current = set-fits t.current f.current v o g;
+  pub replaced_fits : (kind : Kind) (o : Operand) → FitsOperand o → FitsTables count (replaced kind t v o)
+  replaced_fits Kind.Blocking o g = record {
+    current_count = length-set t.current v o ∙ f.current_count;
+    pending_count = f.pending_count;
+    current = set_fits t.current f.current v o g;
     pending = f.pending;
   }
-  replaced-fits Kind.NonBlocking o g = record {
-    current-count = f.current-count;
-    pending-count = length-set t.pending v o ∙ f.pending-count;
+  replaced_fits Kind.NonBlocking o g = record {
+    current_count = f.current_count;
+    pending_count = length-set t.pending v o ∙ f.pending_count;
     current = f.current;
-    pending = set-fits t.pending f.pending v o g;
+    pending = set_fits t.pending f.pending v o g;
   }
 
 -- an operator's result is no wider than its operand, or one bit wide
-one-narrow : (op : OneOperand) {w : ℕ} → w < 256 → one_width op w < 256
+one_narrow : (op : OneOperand) {w : ℕ} → w < 256 → one_width op w < 256
 unfolding one_width
-one-narrow one-operand.Not h = h
-one-narrow one-operand.Parity h = omega arith
+one_narrow one_operand_lem.Not h = h
+one_narrow one_operand_lem.Parity h = omega arith
 
-two-narrow : (op : TwoOperand) {w : ℕ} → w < 256 → two_width op w < 256
+two_narrow : (op : TwoOperand) {w : ℕ} → w < 256 → two_width op w < 256
 unfolding two_width
-two-narrow two-operand.And h = h
-two-narrow two-operand.Or h = h
-two-narrow two-operand.Xor h = h
-two-narrow two-operand.Add h = h
-two-narrow two-operand.Equal h = omega arith
+two_narrow two_operand.And h = h
+two_narrow two_operand.Or h = h
+two_narrow two_operand.Xor h = h
+two_narrow two_operand.Add h = h
+two_narrow two_operand.Equal h = omega arith
 
 -- the number of a cell that is added after these
-pub last-number : (n : ℕ) (cells : List Cell) (c : Cell) → n + length (cells ++ (c ∷ [])) ≤ 2 ^ 32 → n + length cells < 2 ^ 32
-last-number n cells c h = omega (arith, length-append cells (c ∷ []))
+pub last_number : (n : ℕ) (cells : List Cell) (c : Cell) → n + length (cells ++ (c ∷ [])) ≤ 2 ^ 32 → n + length cells < 2 ^ 32
+last_number n cells c h = omega (arith, length-append cells (c ∷ []))
 
 module _ (table : List Operand) (f : Every FitsOperand table) where
-  pub expression-fits : (n : ℕ) (e : Expression) → FitsExpression e → n + length (translate_expression table n e).cells ≤ 2 ^ 32 →
+  pub expression_fits : (n : ℕ) (e : Expression) → FitsExpression e → n + length (translate_expression table n e).cells ≤ 2 ^ 32 →
       FitsOperand (translate_expression table n e).operand
   unfolding translate_expression FitsExpression
-  expression-fits n (constant w v) fits h = fits
-  expression-fits n (variable v) fits h = operand-fits table f v
-  expression-fits n (fixed_bit v k) fits h = (omega arith, omega arith)
-  expression-fits n (chosen_bit v e) fits h =
+  expression_fits n (constant w v) fits h = fits
+  expression_fits n (variable v) fits h = operand_fits table f v
+  expression_fits n (fixed_bit v k) fits h = (omega arith, omega arith)
+  expression_fits n (chosen_bit v e) fits h =
       let i : Emitted = translate_expression table n e in
-      (omega arith, last-number n i.cells (Cell.ChosenBit 1 (operand_at table v) i.operand) h)
-  expression-fits n (one op a) fits h =
+      (omega arith, last_number n i.cells (Cell.ChosenBit 1 (operand_at table v) i.operand) h)
+  expression_fits n (one op a) fits h =
       let x : Emitted = translate_expression table n a in
-      let small = last-number n x.cells (Cell.One op (one_width op (operand_width x.operand)) x.operand) h in
-      (one-narrow op (expression-fits n a fits (omega arith)).0, small)
-  expression-fits n (two op a b) fits h =
+      let small = last_number n x.cells (Cell.One op (one_width op (operand_width x.operand)) x.operand) h in
+      (one_narrow op (expression_fits n a fits (omega arith)).0, small)
+  expression_fits n (two op a b) fits h =
       let x : Emitted = translate_expression table n a in
       let y : Emitted = translate_expression table (n + length x.cells) b in
-      let small = last-number n (x.cells ++ y.cells) (Cell.Two op (two_width op (operand_width x.operand)) x.operand y.operand) h in
-      (two-narrow op (expression-fits n a fits.0 (omega (arith, length-append x.cells y.cells))).0, small)
+      let small = last_number n (x.cells ++ y.cells) (Cell.Two op (two_width op (operand_width x.operand)) x.operand y.operand) h in
+      (two_narrow op (expression_fits n a fits.0 (omega (arith, length-append x.cells y.cells))).0, small)
 
 -- merges
 
 module _ (condition : Operand) where
-  merge-fits : (n : ℕ) (a b : List Operand) → Every FitsOperand a → n + length (merge condition n a b).cells ≤ 2 ^ 32 → Every FitsOperand (merge condition n a b).operands
+  merge_fits : (n : ℕ) (a b : List Operand) → Every FitsOperand a → n + length (merge condition n a b).cells ≤ 2 ^ 32 → Every FitsOperand (merge condition n a b).operands
   unfolding merge
-  merge-fits n [] bs f h = tt
-  merge-fits n (a ∷ as') [] f h = tt
-  merge-fits n (a ∷ as') (b ∷ bs) f h = go (same_operand a b) (merge-fits n as' bs f.1) (merge-fits (n + 1) as' bs f.1) h
+  merge_fits n [] bs f h = tt
+  merge_fits n (a ∷ as') [] f h = tt
+  merge_fits n (a ∷ as') (b ∷ bs) f h = go (same_operand a b) (merge_fits n as' bs f.1) (merge_fits (n + 1) as' bs f.1) h
     where
       go : (t : Bool) → (n + length (merge condition n as' bs).cells ≤ 2 ^ 32 → Every FitsOperand (merge condition n as' bs).operands) →
           (n + 1 + length (merge condition (n + 1) as' bs).cells ≤ 2 ^ 32 → Every FitsOperand (merge condition (n + 1) as' bs).operands) →
@@ -132,28 +132,28 @@ module _ (condition : Operand) where
       go true same other h = (f.0, same h)
       go false same other h = ((f.0.0, omega arith), other (omega arith))
 
-  merge-count : (n : ℕ) (a b : List Operand) → length a ≡ length b → length (merge condition n a b).operands ≡ length a
+  merge_count : (n : ℕ) (a b : List Operand) → length a ≡ length b → length (merge condition n a b).operands ≡ length a
   unfolding merge
-  merge-count n [] bs e = refl
-  merge-count n (a ∷ as') [] e = absurd (omega arith)
-  merge-count n (a ∷ as') (b ∷ bs) e = go (same_operand a b) (merge-count n as' bs (omega arith)) (merge-count (n + 1) as' bs (omega arith))
+  merge_count n [] bs e = refl
+  merge_count n (a ∷ as') [] e = absurd (omega arith)
+  merge_count n (a ∷ as') (b ∷ bs) e = go (same_operand a b) (merge_count n as' bs (omega arith)) (merge_count (n + 1) as' bs (omega arith))
     where
       go : (t : Bool) → length (merge condition n as' bs).operands ≡ length as' → length (merge condition (n + 1) as' bs).operands ≡ length as' →
           length (cond t (kept a (merge condition n as' bs)) (muxed condition n a b (merge condition (n + 1) as' bs))).operands ≡ length (a ∷ as')
       go true same other = omega arith
       go false same other = omega arith
 
-  pub merge-tables-fit : {count : ℕ} {a b : Tables} (n : ℕ) → FitsTables count a → FitsTables count b →
+  pub merge_tables_fit : {count : ℕ} {a b : Tables} (n : ℕ) → FitsTables count a → FitsTables count b →
       n + length (merge_tables condition n a b).cells ≤ 2 ^ 32 → FitsTables count (merge_tables condition n a b).tables
   unfolding merge_tables
-  merge-tables-fit {a = a} {b} n f g h =
+  merge_tables_fit {a = a} {b} n f g h =
       let first : Merged = merge condition n a.current b.current in
       let second : Merged = merge condition (n + length first.cells) a.pending b.pending in
       let sum : length (first.cells ++ second.cells) ≡ length first.cells + length second.cells = length-append first.cells second.cells in
       record {
-        current-count = merge-count n a.current b.current (omega (arith, f.current-count, g.current-count)) ∙ f.current-count;
-        pending-count =
-            merge-count (n + length first.cells) a.pending b.pending (omega (arith, f.pending-count, g.pending-count)) ∙ f.pending-count;
-        current = merge-fits n a.current b.current f.current (omega arith);
-        pending = merge-fits (n + length first.cells) a.pending b.pending f.pending (omega arith);
+        current_count = merge_count n a.current b.current (omega (arith, f.current_count, g.current_count)) ∙ f.current_count;
+        pending_count =
+            merge_count (n + length first.cells) a.pending b.pending (omega (arith, f.pending_count, g.pending_count)) ∙ f.pending_count;
+        current = merge_fits n a.current b.current f.current (omega arith);
+        pending = merge_fits (n + length first.cells) a.pending b.pending f.pending (omega arith);
       }

@@ -10,24 +10,24 @@ use Rattle.tagged.specs.Declarations.{declaration_broken}
 use Rattle.tagged.specs.declared.sorts.Sort.TheVariants as Sort
 use Rattle.tagged.specs.declared.answers.Rule.TheVariants as Rule
 use Rattle.tagged.specs.declared.answers.Found.TheVariants as Found
-use Rattle.tagged.proofs.ListBytes.{field-length}
+use Rattle.tagged.proofs.ListBytes.{field_length}
 use Rattle.netlist.specs.Lists.{Netlist}
 use Rattle.netlist.specs.Form.{netlist_payload, netlist_bytes}
 use Rattle.netlist.specs.Rules.{registers_from}
 use Rattle.verilog.specs.Tree.{Module}
 use Rattle.translate.specs.Translation.{translated_module, netlist_of}
 use Rattle.translate.specs.Answer.{largest_netlist}
-use Rattle.tagged.proofs.DeclarationSizes.{variables-few, declarations-length}
-use Rattle.netlist.proofs.RulesFit.{payload-few, registers-count}
-use Rattle.translate.proofs.DrivesPass.{drives-length}
+use Rattle.tagged.proofs.DeclarationSizes.{variables_few, declarations_length}
+use Rattle.netlist.proofs.RulesFit.{payload_few, registers_count}
+use Rattle.translate.proofs.DrivesPass.{drives_length}
 
 pub largest : (m : Module) (base : ℕ) → declaration_broken Rule.Name base m.declarations ≡ Found.Nowhere →
     declaration_broken Rule.Count base m.declarations ≡ Found.Nowhere → length (netlist_of m).cells ≤ most_cells → length (netlist_bytes (netlist_of m)) ≤ largest_netlist
 unfolding netlist_bytes netlist_of
 largest m base name count few =
     let n : Netlist = netlist_of m in
-    let v : length m.declarations ≤ most_variables = variables-few base m.declarations count in
-    let one : length n.drives ≡ length (registers_from 0 m.declarations) = drives-length m (translated_module m).tables (registers_from 0 m.declarations) in
-    let some : length (registers_from 0 m.declarations) ≤ length m.declarations = registers-count 0 m.declarations in
-    let payload : length (netlist_payload n) ≤ 25216 = payload-few n v few (omega arith) (declarations-length base m.declarations name) in
-    rw (field-length (tag_of Sort.Netlist) (netlist_payload n)) (omega arith)
+    let v : length m.declarations ≤ most_variables = variables_few base m.declarations count in
+    let one : length n.drives ≡ length (registers_from 0 m.declarations) = drives_length m (translated_module m).tables (registers_from 0 m.declarations) in
+    let some : length (registers_from 0 m.declarations) ≤ length m.declarations = registers_count 0 m.declarations in
+    let payload : length (netlist_payload n) ≤ 25216 = payload_few n v few (omega arith) (declarations_length base m.declarations name) in
+    rw (field_length (tag_of Sort.Netlist) (netlist_payload n)) (omega arith)

@@ -24,14 +24,14 @@ use Rattle.verilog.specs.Reading.{module_in}
 use Rattle.verilog.specs.Answer.{module_answer}
 use Rattle.translate.specs.Answer.{cell_count, netlist_of_file}
 use Rattle.translate.specs.Translation.{translated_module, netlist_of}
-use Rattle.netlist.proofs.PassedRules.{cell_broken, drive_broken, RulesPass, rules-accepted}
-use Rattle.tagged.proofs.PassLaws.{EachAfter, each-nowhere}
-use Rattle.tagged.proofs.RefusalLaws.{passes-nowhere}
+use Rattle.netlist.proofs.PassedRules.{cell_broken, drive_broken, RulesPass, rules_accepted}
+use Rattle.tagged.proofs.PassLaws.{EachAfter, each_nowhere}
+use Rattle.tagged.proofs.RefusalLaws.{passes_nowhere}
 use Rattle.verilog.proofs.DeclarationsKept.{DeclarationsPass}
-use Rattle.verilog.proofs.AcceptedModule.{accepted-declarations}
+use Rattle.verilog.proofs.AcceptedModule.{accepted_declarations}
 use Rattle.translate.proofs.CellsPass.{CellPasses}
-use Rattle.translate.proofs.StatementCells.{translated-good}
-use Rattle.translate.proofs.DrivesPass.{DrivePasses, drives-pass, drives-length}
+use Rattle.translate.proofs.StatementCells.{translated_good}
+use Rattle.translate.proofs.DrivesPass.{DrivePasses, drives_pass, drives_length}
 
 -- a netlist whose cells and drives pass, each after those before it
 pub record NetlistPasses (n : Netlist) : Type 0 where
@@ -42,91 +42,91 @@ pub record NetlistPasses (n : Netlist) : Type 0 where
 
 module _ (base : ℕ) (n : Netlist) (d : DeclarationsPass base n.declarations) (p : NetlistPasses n) where
   -- a rule that each cell passes, or that no cell breaks; and so for drives and declarations
-  cells-nowhere : (rule : Rule) → ((earlier : List Cell) (c : Cell) → CellPasses n.declarations earlier c → cell_breaks rule n.declarations earlier c ≡ false) →
+  cells_nowhere : (rule : Rule) → ((earlier : List Cell) (c : Cell) → CellPasses n.declarations earlier c → cell_breaks rule n.declarations earlier c ≡ false) →
       cell_broken rule base n ≡ Found.Nowhere
-  cells-nowhere rule h = each-nowhere (cell_breaks rule n.declarations) cell_bytes h (cells_base base n) p.cells
+  cells_nowhere rule h = each_nowhere (cell_breaks rule n.declarations) cell_bytes h (cells_base base n) p.cells
 
-  drives-nowhere : (rule : Rule) →
+  drives_nowhere : (rule : Rule) →
       ((earlier : List Drive) (c : Drive) → DrivePasses n.declarations n.cells earlier c → drive_breaks rule n.declarations n.cells earlier c ≡ false) →
       drive_broken rule base n ≡ Found.Nowhere
-  drives-nowhere rule h = each-nowhere (drive_breaks rule n.declarations n.cells) drive_bytes h (drives_base base n) p.drives
+  drives_nowhere rule h = each_nowhere (drive_breaks rule n.declarations n.cells) drive_bytes h (drives_base base n) p.drives
 
-  declarations-nowhere : (rule : Rule) → ((earlier : List Declaration) (c : Declaration) → declaration_breaks rule earlier c ≡ false) →
+  declarations_nowhere : (rule : Rule) → ((earlier : List Declaration) (c : Declaration) → declaration_breaks rule earlier c ≡ false) →
       declaration_broken rule base n.declarations ≡ Found.Nowhere
-  declarations-nowhere rule h = passes-nowhere (declaration_breaks rule) [] (placed_by declaration_bytes base n.declarations) (λ before p c s. h before c)
+  declarations_nowhere rule h = passes_nowhere (declaration_breaks rule) [] (placed_by declaration_bytes base n.declarations) (λ before p c s. h before c)
 
   -- so every rule that is looked for passes
-  rules-pass : RulesPass base n
+  rules_pass : RulesPass base n
   unfolding whole_broken declaration_breaks cell_breaks drive_breaks
-  rules-pass = record {
+  rules_pass = record {
     value = record {
       declarations = d.value;
-      cells = cells-nowhere Rule.Value (λ e c h. h.value);
-      drives = drives-nowhere Rule.Value (λ e c h. h.value);
+      cells = cells_nowhere Rule.Value (λ e c h. h.value);
+      drives = drives_nowhere Rule.Value (λ e c h. h.value);
       whole = refl;
     };
     name = record {
       declarations = d.name;
-      cells = cells-nowhere Rule.Name (λ e c h. refl);
-      drives = drives-nowhere Rule.Name (λ e c h. refl);
+      cells = cells_nowhere Rule.Name (λ e c h. refl);
+      drives = drives_nowhere Rule.Name (λ e c h. refl);
       whole = refl;
     };
     count = record {
       declarations = d.count;
-      cells = cells-nowhere Rule.Count (λ e c h. refl);
-      drives = drives-nowhere Rule.Count (λ e c h. refl);
+      cells = cells_nowhere Rule.Count (λ e c h. refl);
+      drives = drives_nowhere Rule.Count (λ e c h. refl);
       whole = refl;
     };
     reference = record {
-      declarations = declarations-nowhere Rule.Reference (λ e c. refl);
-      cells = cells-nowhere Rule.Reference (λ e c h. h.reference);
-      drives = drives-nowhere Rule.Reference (λ e c h. h.reference);
+      declarations = declarations_nowhere Rule.Reference (λ e c. refl);
+      cells = cells_nowhere Rule.Reference (λ e c h. h.reference);
+      drives = drives_nowhere Rule.Reference (λ e c h. h.reference);
       whole = rw (le-ltb (length n.drives) (length (registers_from 0 n.declarations)) (omega (arith, p.driven)));
     };
     widths = record {
-      declarations = declarations-nowhere Rule.Widths (λ e c. refl);
-      cells = cells-nowhere Rule.Widths (λ e c h. h.widths);
-      drives = drives-nowhere Rule.Widths (λ e c h. h.widths);
+      declarations = declarations_nowhere Rule.Widths (λ e c. refl);
+      cells = cells_nowhere Rule.Widths (λ e c h. h.widths);
+      drives = drives_nowhere Rule.Widths (λ e c h. h.widths);
       whole = refl;
     };
     bits = record {
-      declarations = declarations-nowhere Rule.BitNumber (λ e c. refl);
-      cells = cells-nowhere Rule.BitNumber (λ e c h. h.bit);
-      drives = drives-nowhere Rule.BitNumber (λ e c h. refl);
+      declarations = declarations_nowhere Rule.BitNumber (λ e c. refl);
+      cells = cells_nowhere Rule.BitNumber (λ e c h. h.bit);
+      drives = drives_nowhere Rule.BitNumber (λ e c h. refl);
       whole = refl;
     };
     cells = record {
-      declarations = declarations-nowhere Rule.Cells (λ e c. refl);
-      cells = cells-nowhere Rule.Cells (λ e c h. refl);
-      drives = drives-nowhere Rule.Cells (λ e c h. refl);
+      declarations = declarations_nowhere Rule.Cells (λ e c. refl);
+      cells = cells_nowhere Rule.Cells (λ e c h. refl);
+      drives = drives_nowhere Rule.Cells (λ e c h. refl);
       whole = rw (le-ltb most_cells (length n.cells) p.few);
     };
   }
 
-  pub passes-accepted : lists_answer base n ≡ Answer.Accepted
-  passes-accepted = rules-accepted rules-pass
+  pub passes_accepted : lists_answer base n ≡ Answer.Accepted
+  passes_accepted = rules_accepted rules_pass
 
 -- what translation gives passes
-pub translation-passes : (m : Module) → TypedModule m → length (netlist_of m).cells ≤ most_cells → NetlistPasses (netlist_of m)
+pub translation_passes : (m : Module) → TypedModule m → length (netlist_of m).cells ≤ most_cells → NetlistPasses (netlist_of m)
 unfolding netlist_of
-translation-passes m p few =
-    let t = translated-good m p in
+translation_passes m p few =
+    let t = translated_good m p in
     record {
       cells = t.pass;
-      drives = drives-pass m (translated_module m).cells (translated_module m).tables t.good;
-      driven = drives-length m (translated_module m).tables (registers_from 0 m.declarations);
+      drives = drives_pass m (translated_module m).cells (translated_module m).tables t.good;
+      driven = drives_length m (translated_module m).tables (registers_from 0 m.declarations);
       few = few;
     }
 
-pub netlist-accepted : (m : Module) → TypedModule m → declaration_broken Rule.Value 3 m.declarations ≡ Found.Nowhere →
+pub netlist_accepted : (m : Module) → TypedModule m → declaration_broken Rule.Value 3 m.declarations ≡ Found.Nowhere →
     declaration_broken Rule.Name 3 m.declarations ≡ Found.Nowhere → declaration_broken Rule.Count 3 m.declarations ≡ Found.Nowhere →
     length (netlist_of m).cells ≤ most_cells → lists_answer 3 (netlist_of m) ≡ Answer.Accepted
 unfolding netlist_of
-netlist-accepted m p v a c few = passes-accepted 3 (netlist_of m) (record { value = v; name = a; count = c }) (translation-passes m p few)
+netlist_accepted m p v a c few = passes_accepted 3 (netlist_of m) (record { value = v; name = a; count = c }) (translation_passes m p few)
 
 -- so for a file whose module is accepted and typed
-pub file-netlist-accepted : (file : List ℕ) → module_answer file ≡ Answer.Accepted → TypedModule (module_in file) → cell_count file ≤ most_cells →
+pub file_netlist_accepted : (file : List ℕ) → module_answer file ≡ Answer.Accepted → TypedModule (module_in file) → cell_count file ≤ most_cells →
     lists_answer 3 (netlist_of_file file) ≡ Answer.Accepted
-file-netlist-accepted file e p few =
-    let d = accepted-declarations file e in
-    netlist-accepted (module_in file) p d.value d.name d.count few
+file_netlist_accepted file e p few =
+    let d = accepted_declarations file e in
+    netlist_accepted (module_in file) p d.value d.name d.count few

@@ -21,7 +21,7 @@ use Rattle.verilog.specs.Reading.{module_in}
 use Rattle.verilog.specs.Rules.{module_broken}
 use Rattle.verilog.specs.Answer.{module_rules, tree_answer, module_answer}
 use Rattle.translate.specs.Answer.{translated_bytes, cell_count, after_check, translate_answer, largest_netlist}
-use Rattle.verilog.proofs.AcceptedModule.{accepted-declarations}
+use Rattle.verilog.proofs.AcceptedModule.{accepted_declarations}
 use Rattle.translate.proofs.Largest.{largest}
 
 -- an answer that is not refusal 13
@@ -30,19 +30,19 @@ NotBuffer a = (place : ℕ) → a ≡ Answer.Refused Rule.Buffer place → ⊥
 
 -- a list of rules below rule 13
 data BelowBuffer : List Rule → Type 0 where
-  no-rules : BelowBuffer []
-  more-rules : {rule : Rule} {l : List Rule} → ltb (number_of rule) (number_of Rule.Buffer) ≡ true → BelowBuffer l → BelowBuffer (rule ∷ l)
+  no_rules : BelowBuffer []
+  more_rules : {rule : Rule} {l : List Rule} → ltb (number_of rule) (number_of Rule.Buffer) ≡ true → BelowBuffer l → BelowBuffer (rule ∷ l)
 
-module-rules : BelowBuffer module_rules
+module_rules_lem : BelowBuffer module_rules
 unfolding number_of
-module-rules =
-    more-rules refl (more-rules refl (more-rules refl (more-rules refl (more-rules refl (more-rules refl
-    (more-rules refl (more-rules refl (more-rules refl no-rules))))))))
+module_rules_lem =
+    more_rules refl (more_rules refl (more_rules refl (more_rules refl (more_rules refl (more_rules refl
+    (more_rules refl (more_rules refl (more_rules refl no_rules))))))))
 
-refusal-not : (broken : Rule → Found) (l : List Rule) → BelowBuffer l → NotBuffer (first_refusal broken l)
+refusal_not : (broken : Rule → Found) (l : List Rule) → BelowBuffer l → NotBuffer (first_refusal broken l)
 unfolding first_refusal
-refusal-not broken [] no-rules place e = let z : ◌≡◌ {A = ℕ} 0 1 = cc in omega arith
-refusal-not broken (rule ∷ l) (more-rules h r) place e = go (broken rule) (refusal-not broken l r place) e
+refusal_not broken [] no_rules place e = let z : ◌≡◌ {A = ℕ} 0 1 = cc in omega arith
+refusal_not broken (rule ∷ l) (more_rules h r) place e = go (broken rule) (refusal_not broken l r place) e
   where
     go : (f : Found) → (first_refusal broken l ≡ Answer.Refused Rule.Buffer place → ⊥) →
         refused_at rule f (first_refusal broken l) ≡ Answer.Refused Rule.Buffer place → ⊥
@@ -53,9 +53,9 @@ refusal-not broken (rule ∷ l) (more-rules h r) place e = go (broken rule) (ref
         omega arith
     go Found.Nowhere k p = k p
 
-file-not : (longest : ℕ) (file : List ℕ) → NotBuffer (file_answer longest file)
+file_not : (longest : ℕ) (file : List ℕ) → NotBuffer (file_answer longest file)
 unfolding file_answer outer_answer
-file-not longest file place e = go (length_fits longest file) (outer_fits file) e
+file_not longest file place e = go (length_fits longest file) (outer_fits file) e
   where
     go : (s t : Bool) → cond s (cond t Answer.Accepted (Answer.Refused Rule.FileLength 0)) (Answer.Refused Rule.FileLength 0) ≡ Answer.Refused Rule.Buffer place → ⊥
     go true true p = let z : ◌≡◌ {A = ℕ} 0 1 = cc in omega arith
@@ -63,30 +63,30 @@ file-not longest file place e = go (length_fits longest file) (outer_fits file) 
     go false true p = let z : ◌≡◌ {A = ℕ} 0 1 = cc in omega arith
     go false false p = let z : ◌≡◌ {A = ℕ} 0 1 = cc in omega arith
 
-form-not : (s : Step) (other : Answer) → NotBuffer other → NotBuffer (after_form s other)
-form-not (Step.Past n) other h place e = h place e
-form-not (Step.Refused x) other h place e = let z : ◌≡◌ {A = ℕ} 0 1 = cc in omega arith
+form_not : (s : Step) (other : Answer) → NotBuffer other → NotBuffer (after_form s other)
+form_not (Step.Past n) other h place e = h place e
+form_not (Step.Refused x) other h place e = let z : ◌≡◌ {A = ℕ} 0 1 = cc in omega arith
 
-answer-not : (a other : Answer) → NotBuffer a → NotBuffer other → NotBuffer (after_answer a other)
-answer-not Answer.Accepted other g h = h
-answer-not (Answer.Refused rule x) other g h = g
+answer_not : (a other : Answer) → NotBuffer a → NotBuffer other → NotBuffer (after_answer a other)
+answer_not Answer.Accepted other g h = h
+answer_not (Answer.Refused rule x) other g h = g
 
-module-not : (file : List ℕ) → NotBuffer (module_answer file)
+module_not : (file : List ℕ) → NotBuffer (module_answer file)
 unfolding module_answer tree_answer
-module-not file =
-    answer-not (file_answer longest_module file) (after_form (module_form file) (tree_answer 3 (module_in file))) (file-not longest_module file)
-    (form-not (module_form file) (tree_answer 3 (module_in file)) (refusal-not (module_broken 3 (module_in file)) module_rules module-rules))
+module_not file =
+    answer_not (file_answer longest_module file) (after_form (module_form file) (tree_answer 3 (module_in file))) (file_not longest_module file)
+    (form_not (module_form file) (tree_answer 3 (module_in file)) (refusal_not (module_broken 3 (module_in file)) module_rules module_rules_lem))
 
 -- an accepted module within 1,024 cells has a netlist of at most so many bytes
-pub accepted-small : (file : List ℕ) → module_answer file ≡ Answer.Accepted → cell_count file ≤ most_cells → length (translated_bytes file) ≤ largest_netlist
-accepted-small file e few =
-    let d = accepted-declarations file e in
+pub accepted_small : (file : List ℕ) → module_answer file ≡ Answer.Accepted → cell_count file ≤ most_cells → length (translated_bytes file) ≤ largest_netlist
+accepted_small file e few =
+    let d = accepted_declarations file e in
     largest (module_in file) 3 d.name d.count few
 
 -- so refusal 13 is never the answer where there is room for the largest
-pub room-enough : (file : List ℕ) (room : ℕ) → largest_netlist ≤ room → (place : ℕ) → translate_answer file room ≡ Translation.Refused Rule.Buffer place → ⊥
+pub room_enough : (file : List ℕ) (room : ℕ) → largest_netlist ≤ room → (place : ℕ) → translate_answer file room ≡ Translation.Refused Rule.Buffer place → ⊥
 unfolding translate_answer
-room-enough file room h place e = go (module_answer file) refl e
+room_enough file room h place e = go (module_answer file) refl e
   where
     size : ℕ
     size = length (translated_bytes file)
@@ -96,11 +96,11 @@ room-enough file room h place e = go (module_answer file) refl e
         Translation.Refused Rule.Buffer place → ⊥
     few true c s r a p = let z : ◌≡◌ {A = ℕ} 0 1 = cc in omega arith
     few false c true r a p =
-        let small : size ≤ largest_netlist = accepted-small file a (ltb-false most_cells (cell_count file) c) in
+        let small : size ≤ largest_netlist = accepted_small file a (ltb-false most_cells (cell_count file) c) in
         let long : room < size = ltb-true room size r in
         omega arith
     few false c false r a p = let z : ◌≡◌ {A = ℕ} 0 1 = cc in omega arith
 
     go : (a : Answer) → module_answer file ≡ a → after_check a (cell_count file) size room ≡ Translation.Refused Rule.Buffer place → ⊥
-    go (Answer.Refused rule x) a p = module-not file place (a ∙ cc)
+    go (Answer.Refused rule x) a p = module_not file place (a ∙ cc)
     go Answer.Accepted a p = few (ltb most_cells (cell_count file)) refl (ltb room size) refl a p

@@ -16,8 +16,8 @@ use Rattle.netlist.specs.Cycle.{stated_width, operand_value, cell_value, cell_va
 use Rattle.netlist.specs.declared.Operand.{Operand}
 use Rattle.netlist.specs.declared.Cell.{Cell}
 
-pub stopped-not : {A B : Type 0} {a : A} → stopped ≡ got a → B
-stopped-not e = absurd (let z : ◌≡◌ {A = ℕ} 0 1 = cc in omega arith)
+pub stopped_not : {A B : Type 0} {a : A} → stopped ≡ got a → B
+stopped_not e = absurd (let z : ◌≡◌ {A = ℕ} 0 1 = cc in omega arith)
 
 -- what stands for a missing cell's value
 abbrev pub no_value : Value
@@ -28,14 +28,14 @@ pub record Grows (values later : List Value) : Type 0 where
   pub longer : length values ≤ length later
   pub same : (k : ℕ) → k < length values → get_or later k no_value ≡ get_or values k no_value
 
-pub grows-not : {values : List Value} → Grows values values
-grows-not = record { longer = omega arith; same = λ k h. refl }
+pub grows_not : {values : List Value} → Grows values values
+grows_not = record { longer = omega arith; same = λ k h. refl }
 
-pub grows-twice : {a b c : List Value} → Grows a b → Grows b c → Grows a c
-grows-twice p q = record { longer = omega arith; same = λ k h. q.same k (omega arith) ∙ p.same k h }
+pub grows_twice : {a b c : List Value} → Grows a b → Grows b c → Grows a c
+grows_twice p q = record { longer = omega arith; same = λ k h. q.same k (omega arith) ∙ p.same k h }
 
-grows-append : (values more : List Value) → Grows values (values ++ more)
-grows-append values more = record { longer = simp length-append (omega arith); same = λ k h. get_or-append values more no_value k h }
+grows_append : (values more : List Value) → Grows values (values ++ more)
+grows_append values more = record { longer = simp length-append (omega arith); same = λ k h. get_or-append values more no_value k h }
 
 -- an operand reads this number, of this width, and the number fits
 pub record Denotes (ds : List Declaration) (row : List ℕ) (values : List Value) (o : Operand) (w x : ℕ) : Type 0 where
@@ -43,23 +43,23 @@ pub record Denotes (ds : List Declaration) (row : List ℕ) (values : List Value
   pub wide : operand_width o ≡ w
   pub fits : x < 2 ^ w
 
-value-kept : (ds : List Declaration) (row : List ℕ) {values later : List Value} (o : Operand) {x : Value} → Grows values later →
+value_kept : (ds : List Declaration) (row : List ℕ) {values later : List Value} (o : Operand) {x : Value} → Grows values later →
     operand_value ds row values o ≡ got x → operand_value ds row later o ≡ got x
 unfolding operand_value
-value-kept ds row (Operand.Constant w n) g e = e
-value-kept ds row (Operand.Variable w n) g e = e
-value-kept ds row {values} {later} (Operand.Cell w n) {x} g e = go (ltb n (length values)) refl e
+value_kept ds row (Operand.Constant w n) g e = e
+value_kept ds row (Operand.Variable w n) g e = e
+value_kept ds row {values} {later} (Operand.Cell w n) {x} g e = go (ltb n (length values)) refl e
   where
     go : (t : Bool) → ltb n (length values) ≡ t → provided t (stated_width w (get_or values n no_value)) ≡ got x →
         provided (ltb n (length later)) (stated_width w (get_or later n no_value)) ≡ got x
-    go false h i = stopped-not i
+    go false h i = stopped_not i
     go true h i =
         let below : n < length values = ltb-true n (length values) h in
         rw (lt-ltb n (length later) (omega arith), g.same n below) i
 
-pub denotes-kept : {ds : List Declaration} {row : List ℕ} {values later : List Value} {o : Operand} {w x : ℕ} → Grows values later →
+pub denotes_kept : {ds : List Declaration} {row : List ℕ} {values later : List Value} {o : Operand} {w x : ℕ} → Grows values later →
     Denotes ds row values o w x → Denotes ds row later o w x
-denotes-kept {ds} {row} {o = o} g d = record { is = value-kept ds row o g d.is; wide = d.wide; fits = d.fits }
+denotes_kept {ds} {row} {o = o} g d = record { is = value_kept ds row o g d.is; wide = d.wide; fits = d.fits }
 
 -- the cells run from some values to later ones, one for each cell
 pub record Run (ds : List Declaration) (row : List ℕ) (values : List Value) (cells : List Cell) (later : List Value) : Type 0 where
@@ -69,22 +69,22 @@ pub record Run (ds : List Declaration) (row : List ℕ) (values : List Value) (c
 
 pub run_none : {ds : List Declaration} {row : List ℕ} {values : List Value} → Run ds row values [] values
 unfolding cell_values
-run_none = record { runs = refl; grows = grows-not; count = omega arith }
+run_none = record { runs = refl; grows = grows_not; count = omega arith }
 
-pub run-one : {ds : List Declaration} {row : List ℕ} {values : List Value} {c : Cell} {x : Value} →
+pub run_one : {ds : List Declaration} {row : List ℕ} {values : List Value} {c : Cell} {x : Value} →
     cell_value ds row values c ≡ got x → Run ds row values (c ∷ []) (values ++ (x ∷ []))
 unfolding cell_values
-run-one {values = values} {x = x} e = record {
+run_one {values = values} {x = x} e = record {
   runs = rw e;
-  grows = grows-append values (x ∷ []);
+  grows = grows_append values (x ∷ []);
   count = simp length-append (omega arith);
 }
 
-cells-append : (ds : List Declaration) (row : List ℕ) (values : List Value) (a b : List Cell) →
+cells_append : (ds : List Declaration) (row : List ℕ) (values : List Value) (a b : List Cell) →
     cell_values ds row values (a ++ b) ≡ (cell_values ds row values a >>= λ later. cell_values ds row later b)
 unfolding cell_values
-cells-append ds row values [] b = refl
-cells-append ds row values (c ∷ a) b = go (cell_value ds row values c) (λ x. cells-append ds row (values ++ (x ∷ [])) a b)
+cells_append ds row values [] b = refl
+cells_append ds row values (c ∷ a) b = go (cell_value ds row values c) (λ x. cells_append ds row (values ++ (x ∷ [])) a b)
   where
     go : (o : Outcome Value) →
         ((x : Value) → cell_values ds row (values ++ (x ∷ [])) (a ++ b) ≡ (cell_values ds row (values ++ (x ∷ [])) a >>= λ later. cell_values ds row later b)) →
@@ -93,19 +93,19 @@ cells-append ds row values (c ∷ a) b = go (cell_value ds row values c) (λ x. 
     go stopped h = refl
     go (got x) h = h x
 
-pub run-append : {ds : List Declaration} {row : List ℕ} {values mid later : List Value} {a b : List Cell} →
+pub run_append : {ds : List Declaration} {row : List ℕ} {values mid later : List Value} {a b : List Cell} →
     Run ds row values a mid → Run ds row mid b later → Run ds row values (a ++ b) later
-run-append {ds} {row} {values} {a = a} {b = b} p q = record {
-  runs = cells-append ds row values a b ∙ rw p.runs q.runs;
-  grows = grows-twice p.grows q.grows;
+run_append {ds} {row} {values} {a = a} {b = b} p q = record {
+  runs = cells_append ds row values a b ∙ rw p.runs q.runs;
+  grows = grows_twice p.grows q.grows;
   count = simp length-append (omega arith);
 }
 
 -- the operand of the cell that was run last
-pub denotes-last : {ds : List Declaration} {row : List ℕ} (values : List Value) {w x : ℕ} (n : ℕ) → n ≡ length values → x < 2 ^ w →
+pub denotes_last : {ds : List Declaration} {row : List ℕ} (values : List Value) {w x : ℕ} (n : ℕ) → n ≡ length values → x < 2 ^ w →
     Denotes ds row (values ++ (record { width = w; number = x } ∷ [])) (Operand.Cell w n) w x
 unfolding operand_value
-denotes-last values {w} {x} n e h =
+denotes_last values {w} {x} n e h =
     let v : Value = record { width = w; number = x } in
     let below : n < length (values ++ (v ∷ [])) = simp length-append (omega arith) in
     record {

@@ -1,6 +1,6 @@
 -- Which cells and drives a module gives. Throughout, n is how many cells there are before: the next cell's number.
 use Rattle.std.specs.Prelude.{cond, List, [], ◌∷◌, ◌++◌, ℕ, ◌+◌, length}
-use Rattle.words.specs.declared.TwoOperand.TheVariants as two-operand
+use Rattle.words.specs.declared.TwoOperand.TheVariants as two_operand
 use Rattle.words.specs.Operators.{one_width, two_width}
 use Rattle.netlist.specs.Lists.{Netlist, operand_width}
 use Rattle.netlist.specs.Rules.{registers_from}
@@ -82,7 +82,7 @@ unfoldable mutual
   translate_items t n selector (item w v b items) =
       let first : Translated = translate_block t (n + 1) b in
       let second : Translated = translate_items t (n + 1 + length first.cells) selector items in
-      after (Cell.Two two-operand.Equal 1 selector (Operand.Constant w v) ∷ []) (joined (Operand.Cell 1 n) (n + 1) first second)
+      after (Cell.Two two_operand.Equal 1 selector (Operand.Constant w v) ∷ []) (joined (Operand.Cell 1 n) (n + 1) first second)
 
 -- processes in file order
 unfoldable pub translate_all : Tables → ℕ → List Block → Translated

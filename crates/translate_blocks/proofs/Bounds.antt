@@ -19,9 +19,9 @@ use Rattle.translate.specs.Translation.{Emitted, translate_expression}
 use Rattle.translate_blocks.specs.Words.{packed, unpacked, slot_of, current_operands, Written, merge_words}
 use Rattle.translate_blocks.specs.Writing.{expression_at, Translator, behind, untouched, write_all, write_assign, write_assign_bit, join_words, write_items, write_front, write_if, write_case, write_by, write_statement, write_block, write_item, write_process, write_processes}
 use Rattle.translate_blocks.specs.Log.{changes, equal_cell}
-use Rattle.translate_blocks.proofs.SortBranches.{test-holds, branch-holds, statement-holds, expression-holds}
-use Rattle.translate_blocks.proofs.ChangeCounts.{changes-none, changes-set, changes-twice, merged-length, merged-few, merged-changes}
-use Rattle.translate_blocks.proofs.FieldSizes.{front_size, front-within, front-sized, fields_within, fields_size}
+use Rattle.translate_blocks.proofs.SortBranches.{test_holds, branch_holds, statement_holds, expression_holds}
+use Rattle.translate_blocks.proofs.ChangeCounts.{changes_none, changes-set, changes_twice, merged_length, merged_few, merged_changes}
+use Rattle.translate_blocks.proofs.FieldSizes.{front_size, front_within, front_sized, fields_within, fields_size}
 
 -- an expression adds a cell for every third byte of its field at most
 
@@ -29,34 +29,34 @@ module _ (table : List Operand) where
   abbrev FewCells : ℕ → Expression → Type 0
   FewCells bytes e = (n : ℕ) → 3 * length (translate_expression table n e).cells ≤ bytes
 
-  expression-few : (inner : List ℕ → Expression) → ((l : List ℕ) → FewCells (front_size l) (inner l)) → (e : ExpressionSort) (p : List ℕ) →
+  expression_few : (inner : List ℕ → Expression) → ((l : List ℕ) → FewCells (front_size l) (inner l)) → (e : ExpressionSort) (p : List ℕ) →
       FewCells (length p + 3) (expression_with inner e p)
   unfolding translate_expression
-  expression-few inner few ExpressionSort.Constant p n = omega arith
-  expression-few inner few ExpressionSort.Variable p n = omega arith
-  expression-few inner few ExpressionSort.FixedBit p n = omega arith
-  expression-few inner few ExpressionSort.ChosenBit p n =
-      rw length-append (omega (arith, few (drop 1 p) n, front-within (drop 1 p), length-drop 1 p))
-  expression-few inner few (ExpressionSort.One op) p n = rw length-append (omega (arith, few p n, front-within p))
-  expression-few inner few (ExpressionSort.Two op) p n =
+  expression_few inner few ExpressionSort.Constant p n = omega arith
+  expression_few inner few ExpressionSort.Variable p n = omega arith
+  expression_few inner few ExpressionSort.FixedBit p n = omega arith
+  expression_few inner few ExpressionSort.ChosenBit p n =
+      rw length-append (omega (arith, few (drop 1 p) n, front_within (drop 1 p), length-drop 1 p))
+  expression_few inner few (ExpressionSort.One op) p n = rw length-append (omega (arith, few p n, front_within p))
+  expression_few inner few (ExpressionSort.Two op) p n =
       let x : Emitted = translate_expression table n (inner p) in
       let later : ℕ = n + length x.cells in
-      simp length-append (omega (arith, few p n, few (after_front p) later, front-within p, front-within (after_front p)))
+      simp length-append (omega (arith, few p n, few (after_front p) later, front_within p, front_within (after_front p)))
 
-  none-few : (bytes : ℕ) → FewCells bytes no_expression
+  none_few : (bytes : ℕ) → FewCells bytes no_expression
   unfolding translate_expression
-  none-few bytes n = omega arith
+  none_few bytes n = omega arith
 
-  pub expression-cells : (d : ℕ) (l : List ℕ) (n : ℕ) → 3 * length (translate_expression table n (expression_in d l)).cells ≤ front_size l
+  pub expression_cells : (d : ℕ) (l : List ℕ) (n : ℕ) → 3 * length (translate_expression table n (expression_in d l)).cells ≤ front_size l
   unfolding expression_in
-  expression-cells zero l n = none-few (front_size l) n
-  expression-cells (suc d) l n =
-      front-sized FewCells (λ s p. on_expression s (λ e. expression_with (expression_in d) e p) no_expression) no_expression l
-      (λ s p. expression-holds (FewCells (length p + 3)) s (λ e. expression-few (expression_in d) (expression-cells d) e p) (none-few (length p + 3)))
-      (none-few 0) n
+  expression_cells zero l n = none_few (front_size l) n
+  expression_cells (suc d) l n =
+      front_sized FewCells (λ s p. on_expression s (λ e. expression_with (expression_in d) e p) no_expression) no_expression l
+      (λ s p. expression_holds (FewCells (length p + 3)) s (λ e. expression_few (expression_in d) (expression_cells d) e p) (none_few (length p + 3)))
+      (none_few 0) n
 
-  pub expression-small : (d : ℕ) (l : List ℕ) (n : ℕ) → 3 * length (translate_expression table n (expression_in d l)).cells ≤ length l
-  expression-small d l n = omega (arith, expression-cells d l n, front-within l)
+  pub expression_small : (d : ℕ) (l : List ℕ) (n : ℕ) → 3 * length (translate_expression table n (expression_in d l)).cells ≤ length l
+  expression_small d l n = omega (arith, expression_cells d l n, front_within l)
 
 -- what a part of so many bytes may add and change
 pub record Bounded (bytes : ℕ) (table : List ℕ) (w : Written) : Type 0 where
@@ -70,17 +70,17 @@ pub more_bytes : {a b : ℕ} {table : List ℕ} {w : Written} → a ≤ b → Bo
 more_bytes h w = record { kept = w.kept; cells = λ few. omega (arith, h, w.cells few); changed = omega (arith, h, w.changed) }
 
 added : (bytes : ℕ) (cells : List Cell) (table : List ℕ) → length cells ≤ 128 * bytes → Bounded bytes table (record { cells = cells; table = table })
-added bytes cells table h = record { kept = refl; cells = λ few. h; changed = omega (arith, changes-none table) }
+added bytes cells table h = record { kept = refl; cells = λ few. h; changed = omega (arith, changes_none table) }
 
 nothing : (bytes : ℕ) (table : List ℕ) → Bounded bytes table (untouched table)
 nothing bytes table = added bytes [] table (omega arith)
 
-then-more : {a b : ℕ} {table : List ℕ} {w v : Written} → Bounded a table w → Bounded b w.table v → Bounded (a + b) table (behind w.cells v)
-then-more {table = table} {w} {v} p q =
+then_more : {a b : ℕ} {table : List ℕ} {w v : Written} → Bounded a table w → Bounded b w.table v → Bounded (a + b) table (behind w.cells v)
+then_more {table = table} {w} {v} p q =
     record {
       kept = q.kept ∙ p.kept;
       cells = λ few. omega (arith, length-append w.cells v.cells, p.cells few, q.cells (omega (arith, p.kept, few)));
-      changed = omega (arith, changes-twice table w.table v.table p.kept, p.changed, q.changed);
+      changed = omega (arith, changes_twice table w.table v.table p.kept, p.changed, q.changed);
     }
 
 -- the merge's muxes count as one byte more
@@ -91,7 +91,7 @@ joined {table = table} {w} {v} condition n p q =
     let both : length v.table ≡ length w.table = q.kept ∙ sym p.kept in
     let muxes : List Cell = (merge_words condition later w.table v.table).cells in
     record {
-      kept = merged-length condition later w.table v.table both ∙ p.kept;
+      kept = merged_length condition later w.table v.table both ∙ p.kept;
       cells = λ few. omega (
         arith,
         length-append (w.cells ++ v.cells) muxes,
@@ -100,43 +100,43 @@ joined {table = table} {w} {v} condition n p q =
         q.cells few,
         few,
         p.kept,
-        merged-few condition later w.table v.table,
+        merged_few condition later w.table v.table,
       );
-      changed = omega (arith, merged-changes condition later table w.table v.table p.kept q.kept, p.changed, q.changed);
+      changed = omega (arith, merged_changes condition later table w.table v.table p.kept q.kept, p.changed, q.changed);
     }
 
 -- lists of fields
 
-pub all-bounded : (one : Translator) → ((s : Sort) (p table : List ℕ) (n : ℕ) → Bounded (length p + 3) table (one s p table n)) →
+pub all_bounded : (one : Translator) → ((s : Sort) (p table : List ℕ) (n : ℕ) → Bounded (length p + 3) table (one s p table n)) →
     (l : List (Placed Field)) (table : List ℕ) (n : ℕ) → Bounded (fields_size l) table (write_all one l table n)
 unfolding write_all fields_size
-all-bounded one each [] table n = nothing 0 table
-all-bounded one each (f ∷ l) table n =
+all_bounded one each [] table n = nothing 0 table
+all_bounded one each (f ∷ l) table n =
     let first : Written = one f.what.sort f.what.payload table n in
-    then-more (each f.what.sort f.what.payload table n) (all-bounded one each l first.table (n + length first.cells))
+    then_more (each f.what.sort f.what.payload table n) (all_bounded one each l first.table (n + length first.cells))
 
-pub items-bounded : (item : List ℕ → List ℕ → ℕ → Written) (block : Translator) → ((p table : List ℕ) (n : ℕ) → Bounded (length p) table (item p table n)) →
+pub items_bounded : (item : List ℕ → List ℕ → ℕ → Written) (block : Translator) → ((p table : List ℕ) (n : ℕ) → Bounded (length p) table (item p table n)) →
     ((s : Sort) (p table : List ℕ) (n : ℕ) → Bounded (length p) table (block s p table n)) →
     (selector : Operand) (l : List (Placed Field)) (table : List ℕ) (n : ℕ) → Bounded (fields_size l) table (write_items item block selector l table n)
 unfolding write_items fields_size
-items-bounded item block item-holds block-holds selector [] table n = nothing 0 table
-items-bounded item block item-holds block-holds selector (f ∷ l) table n =
+items_bounded item block item-holds block-holds selector [] table n = nothing 0 table
+items_bounded item block item-holds block-holds selector (f ∷ l) table n =
     let p : List ℕ = f.what.payload in
     let first : Written = item p table (n + 1) in
     let later : ℕ = n + 1 + length first.cells in
     let equal : Bounded 1 table (record { cells = equal_cell selector p ∷ []; table = table }) = added 1 (equal_cell selector p ∷ []) table (omega arith) in
-    branch-holds (λ (w : Written). Bounded (length p + 3 + fields_size l) table w) f.what.sort
+    branch_holds (λ (w : Written). Bounded (length p + 3 + fields_size l) table w) f.what.sort
     (more_bytes (omega arith)
-    (then-more equal
-    (joined (Operand.Cell 1 n) (n + 1) (item-holds p table (n + 1)) (items-bounded item block item-holds block-holds selector l table later))))
+    (then_more equal
+    (joined (Operand.Cell 1 n) (n + 1) (item-holds p table (n + 1)) (items_bounded item block item-holds block-holds selector l table later))))
     (more_bytes (omega arith) (block-holds f.what.sort p table n))
     (nothing (length p + 3 + fields_size l) table)
 
 -- the block at the front
-pub front-bounded : (block : Translator) → ((s : Sort) (p table : List ℕ) (n : ℕ) → Bounded (length p) table (block s p table n)) →
+pub front_bounded : (block : Translator) → ((s : Sort) (p table : List ℕ) (n : ℕ) → Bounded (length p) table (block s p table n)) →
     (l table : List ℕ) (n : ℕ) → Bounded (front_size l) table (write_front block l table n)
-front-bounded block holds l table n =
-    front-sized (λ (k : ℕ) (w : Written). Bounded k table w) (λ s p. block s p table n) (untouched table) l
+front_bounded block holds l table n =
+    front_sized (λ (k : ℕ) (w : Written). Bounded k table w) (λ s p. block s p table n) (untouched table) l
     (λ s p. more_bytes (omega arith) (holds s p table n)) (nothing 0 table)
 
 -- statements, by the blocks and items in them
@@ -145,22 +145,22 @@ module _ (count d : ℕ) (block : Translator) (item : List ℕ → List ℕ → 
     (block-holds : (s : Sort) (p table : List ℕ) (n : ℕ) → Bounded (length p) table (block s p table n))
     (item-holds : (p table : List ℕ) (n : ℕ) → Bounded (length p) table (item p table n)) where
   -- an expression in front of the rest
-  with-expression : (l table : List ℕ) (n : ℕ) → Bounded (front_size l) table (record { cells = (expression_at count table n d l).cells; table = table })
-  with-expression l table n =
-      added (front_size l) (expression_at count table n d l).cells table (omega (arith, expression-cells (current_operands count table) d l n))
+  with_expression : (l table : List ℕ) (n : ℕ) → Bounded (front_size l) table (record { cells = (expression_at count table n d l).cells; table = table })
+  with_expression l table n =
+      added (front_size l) (expression_at count table n d l).cells table (omega (arith, expression_cells (current_operands count table) d l n))
 
-  by-bounded : (t : StatementSort) (l table : List ℕ) (n : ℕ) → Bounded (length l + 3) table (write_by count d block item t l table n)
+  by_bounded : (t : StatementSort) (l table : List ℕ) (n : ℕ) → Bounded (length l + 3) table (write_by count d block item t l table n)
   unfolding write_assign write_assign_bit write_if write_case
-  by-bounded (StatementSort.Assign kind) l table n =
+  by_bounded (StatementSort.Assign kind) l table n =
       let slot : ℕ = slot_of count kind (get_or l 0 0) in
       let x : Emitted = expression_at count table n d (drop 1 l) in
       let word : ℕ = packed x.operand in
       record {
         kept = length-set table slot word;
-        cells = λ few. omega (arith, expression-small (current_operands count table) d (drop 1 l) n, length-drop 1 l);
+        cells = λ few. omega (arith, expression_small (current_operands count table) d (drop 1 l) n, length-drop 1 l);
         changed = omega (arith, changes-set table slot word);
       }
-  by-bounded (StatementSort.AssignBit kind) l table n =
+  by_bounded (StatementSort.AssignBit kind) l table n =
       let slot : ℕ = slot_of count kind (get_or l 0 0) in
       let x : Emitted = expression_at count table n d (drop 2 l) in
       let old : Operand = unpacked (get_or table slot 0) in
@@ -168,22 +168,22 @@ module _ (count d : ℕ) (block : Translator) (item : List ℕ → List ℕ → 
       let put : Cell = Cell.Put (operand_width old) old (get_or l 1 0) x.operand in
       record {
         kept = length-set table slot word;
-        cells = λ few. omega (arith, expression-small (current_operands count table) d (drop 2 l) n, length-drop 2 l, length-append x.cells (put ∷ []));
+        cells = λ few. omega (arith, expression_small (current_operands count table) d (drop 2 l) n, length-drop 2 l, length-append x.cells (put ∷ []));
         changed = omega (arith, changes-set table slot word);
       }
-  by-bounded StatementSort.If l table n =
+  by_bounded StatementSort.If l table n =
       let x : Emitted = expression_at count table n d l in
       let start : ℕ = n + length x.cells in
       let first : Written = write_front block (after_front l) table start in
-      more_bytes (omega (arith, front-within l, front-within (after_front l), front-within (after_front (after_front l))))
-      (then-more (with-expression l table n)
-      (joined x.operand start (front-bounded block block-holds (after_front l) table start)
-      (front-bounded block block-holds (after_front (after_front l)) table (start + length first.cells))))
-  by-bounded StatementSort.Case l table n =
+      more_bytes (omega (arith, front_within l, front_within (after_front l), front_within (after_front (after_front l))))
+      (then_more (with_expression l table n)
+      (joined x.operand start (front_bounded block block-holds (after_front l) table start)
+      (front_bounded block block-holds (after_front (after_front l)) table (start + length first.cells))))
+  by_bounded StatementSort.Case l table n =
       let x : Emitted = expression_at count table n d l in
-      more_bytes (omega (arith, front-within l, fields_within 0 (after_front l)))
-      (then-more (with-expression l table n)
-      (items-bounded item block item-holds block-holds x.operand (fields_at 0 (after_front l)) table (n + length x.cells)))
+      more_bytes (omega (arith, front_within l, fields_within 0 (after_front l)))
+      (then_more (with_expression l table n)
+      (items_bounded item block item-holds block-holds x.operand (fields_at 0 (after_front l)) table (n + length x.cells)))
 
 -- whatever the bytes
 
@@ -191,37 +191,37 @@ module _ (count : ℕ) where
   mutual
     unfolding write_statement
 
-    pub statement-bounded : (d : ℕ) (s : Sort) (l table : List ℕ) (n : ℕ) → Bounded (length l + 3) table (write_statement count d s l table n)
-    statement-bounded zero s l table n = nothing (length l + 3) table
-    statement-bounded (suc d) s l table n =
-        statement-holds (λ (w : Written). Bounded (length l + 3) table w) s
-        (λ t. by-bounded count d (λ u p w k. write_block count d u p w k) (λ p w k. write_item count d p w k) (λ u p w k. block-bounded d u p w k)
-        (λ p w k. item-bounded d p w k) t l table n)
+    pub statement_bounded : (d : ℕ) (s : Sort) (l table : List ℕ) (n : ℕ) → Bounded (length l + 3) table (write_statement count d s l table n)
+    statement_bounded zero s l table n = nothing (length l + 3) table
+    statement_bounded (suc d) s l table n =
+        statement_holds (λ (w : Written). Bounded (length l + 3) table w) s
+        (λ t. by_bounded count d (λ u p w k. write_block count d u p w k) (λ p w k. write_item count d p w k) (λ u p w k. block_bounded d u p w k)
+        (λ p w k. item_bounded d p w k) t l table n)
         (nothing (length l + 3) table)
 
-    pub block-bounded : (d : ℕ) (s : Sort) (l table : List ℕ) (n : ℕ) → Bounded (length l) table (write_block count d s l table n)
-    block-bounded zero s l table n = nothing (length l) table
-    block-bounded (suc d) s l table n =
-        test-holds (λ (w : Written). Bounded (length l) table w) (is_sort Sort.Block s)
+    pub block_bounded : (d : ℕ) (s : Sort) (l table : List ℕ) (n : ℕ) → Bounded (length l) table (write_block count d s l table n)
+    block_bounded zero s l table n = nothing (length l) table
+    block_bounded (suc d) s l table n =
+        test_holds (λ (w : Written). Bounded (length l) table w) (is_sort Sort.Block s)
         (more_bytes (fields_within 0 l)
-        (all-bounded (λ u p w k. write_statement count d u p w k) (λ u p w k. statement-bounded d u p w k) (fields_at 0 l) table n))
+        (all_bounded (λ u p w k. write_statement count d u p w k) (λ u p w k. statement_bounded d u p w k) (fields_at 0 l) table n))
         (nothing (length l) table)
 
-    pub item-bounded : (d : ℕ) (l table : List ℕ) (n : ℕ) → Bounded (length l) table (write_item count d l table n)
-    item-bounded zero l table n = nothing (length l) table
-    item-bounded (suc d) l table n =
-        more_bytes (omega (arith, front-within l, front-within (after_front l)))
-        (front-bounded (λ u p w k. write_block count d u p w k) (λ u p w k. block-bounded d u p w k) (after_front l) table n)
+    pub item_bounded : (d : ℕ) (l table : List ℕ) (n : ℕ) → Bounded (length l) table (write_item count d l table n)
+    item_bounded zero l table n = nothing (length l) table
+    item_bounded (suc d) l table n =
+        more_bytes (omega (arith, front_within l, front_within (after_front l)))
+        (front_bounded (λ u p w k. write_block count d u p w k) (λ u p w k. block_bounded d u p w k) (after_front l) table n)
 
-  pub process-bounded : (s : Sort) (l table : List ℕ) (n : ℕ) → Bounded (length l) table (write_process count s l table n)
+  pub process_bounded : (s : Sort) (l table : List ℕ) (n : ℕ) → Bounded (length l) table (write_process count s l table n)
   unfolding write_process
-  process-bounded s l table n =
-      test-holds (λ (w : Written). Bounded (length l) table w) (is_sort Sort.Process s)
-      (more_bytes (fields_within 0 l) (all-bounded (write_statement count 30) (statement-bounded 30) (fields_at 0 l) table n))
+  process_bounded s l table n =
+      test_holds (λ (w : Written). Bounded (length l) table w) (is_sort Sort.Process s)
+      (more_bytes (fields_within 0 l) (all_bounded (write_statement count 30) (statement_bounded 30) (fields_at 0 l) table n))
       (nothing (length l) table)
 
-  pub processes-bounded : (l table : List ℕ) (n : ℕ) → Bounded (length l) table (write_processes count l table n)
+  pub processes_bounded : (l table : List ℕ) (n : ℕ) → Bounded (length l) table (write_processes count l table n)
   unfolding write_processes
-  processes-bounded l table n =
+  processes_bounded l table n =
       more_bytes (fields_within 0 l)
-      (all-bounded (write_process count) (λ s p t k. more_bytes (omega arith) (process-bounded s p t k)) (fields_at 0 l) table n)
+      (all_bounded (write_process count) (λ s p t k. more_bytes (omega arith) (process_bounded s p t k)) (fields_at 0 l) table n)

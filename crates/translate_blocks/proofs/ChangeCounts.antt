@@ -15,31 +15,31 @@ use Rattle.translate_blocks.specs.Log.{unlike, changes}
 
 -- one entry
 
-unlike-one : (x y : ℕ) → unlike x y ≤ 1
-unlike-one x y = go (eqb x y)
+unlike_one : (x y : ℕ) → unlike x y ≤ 1
+unlike_one x y = go (eqb x y)
   where
     go : (t : Bool) → cond t 0 1 ≤ 1
     go true = omega arith
     go false = omega arith
 
 -- unless they differ they are the same
-unlike-same : (x y : ℕ) → (unlike x y ≡ 1) ⊎ (x ≡ y)
-unlike-same x y = go (eqb x y) refl
+unlike_same : (x y : ℕ) → (unlike x y ≡ 1) ⊎ (x ≡ y)
+unlike_same x y = go (eqb x y) refl
   where
     go : (t : Bool) → eqb x y ≡ t → (◌≡◌ {A = ℕ} (cond t 0 1) 1) ⊎ (x ≡ y)
     go true e = inr (eqb-true x y e)
     go false e = inl refl
 
-unlike-twice : (x y z : ℕ) → unlike x z ≤ unlike x y + unlike y z
-unlike-twice x y z = go (unlike-same x y)
+unlike_twice : (x y z : ℕ) → unlike x z ≤ unlike x y + unlike y z
+unlike_twice x y z = go (unlike_same x y)
   where
     go : (unlike x y ≡ 1) ⊎ (x ≡ y) → unlike x z ≤ unlike x y + unlike y z
-    go (inl e) = omega (arith, e, unlike-one x z)
+    go (inl e) = omega (arith, e, unlike_one x z)
     go (inr e) = omega (arith, ap (λ (w : ℕ). unlike w z) e)
 
 -- an entry cannot be the same as two that differ
-unlike-either : (x y z : ℕ) → eqb y z ≡ false → 1 ≤ unlike x y + unlike x z
-unlike-either x y z differ = go (unlike-same x y) (unlike-same x z)
+unlike_either : (x y z : ℕ) → eqb y z ≡ false → 1 ≤ unlike x y + unlike x z
+unlike_either x y z differ = go (unlike_same x y) (unlike_same x z)
   where
     go : (unlike x y ≡ 1) ⊎ (x ≡ y) → (unlike x z ≡ 1) ⊎ (x ≡ z) → 1 ≤ unlike x y + unlike x z
     go (inl e) q = omega (arith, e)
@@ -48,38 +48,38 @@ unlike-either x y z differ = go (unlike-same x y) (unlike-same x z)
 
 -- whole tables
 
-pub changes-none : (a : List ℕ) → changes a a ≡ 0
+pub changes_none : (a : List ℕ) → changes a a ≡ 0
 unfolding changes
-changes-none [] = refl
-changes-none (x ∷ a) = rw (eq-eqb x x refl) (omega (arith, changes-none a))
+changes_none [] = refl
+changes_none (x ∷ a) = rw (eq-eqb x x refl) (omega (arith, changes_none a))
 
-pub changes-most : (a b : List ℕ) → changes a b ≤ length a
+pub changes_most : (a b : List ℕ) → changes a b ≤ length a
 unfolding changes
-changes-most [] b = omega arith
-changes-most (x ∷ a) [] = omega arith
-changes-most (x ∷ a) (y ∷ b) = omega (arith, unlike-one x y, changes-most a b)
+changes_most [] b = omega arith
+changes_most (x ∷ a) [] = omega arith
+changes_most (x ∷ a) (y ∷ b) = omega (arith, unlike_one x y, changes_most a b)
 
 pub changes-set : (a : List ℕ) (slot word : ℕ) → changes a (set a slot word) ≤ 1
 unfolding changes
 changes-set [] slot word = omega arith
-changes-set (x ∷ a) zero word = omega (arith, unlike-one x word, changes-none a)
+changes-set (x ∷ a) zero word = omega (arith, unlike_one x word, changes_none a)
 changes-set (x ∷ a) (suc slot) word = rw (eq-eqb x x refl) (omega (arith, changes-set a slot word))
 
-pub changes-twice : (a b c : List ℕ) → length b ≡ length a → changes a c ≤ changes a b + changes b c
+pub changes_twice : (a b c : List ℕ) → length b ≡ length a → changes a c ≤ changes a b + changes b c
 unfolding changes
-changes-twice [] b c h = omega arith
-changes-twice (x ∷ a) [] c h = absurd (omega arith)
-changes-twice (x ∷ a) (y ∷ b) [] h = omega arith
-changes-twice (x ∷ a) (y ∷ b) (z ∷ c) h = omega (arith, unlike-twice x y z, changes-twice a b c (omega arith))
+changes_twice [] b c h = omega arith
+changes_twice (x ∷ a) [] c h = absurd (omega arith)
+changes_twice (x ∷ a) (y ∷ b) [] h = omega arith
+changes_twice (x ∷ a) (y ∷ b) (z ∷ c) h = omega (arith, unlike_twice x y z, changes_twice a b c (omega arith))
 
 -- a merge
 
 module _ (condition : Operand) where
-  pub merged-length : (n : ℕ) (a b : List ℕ) → length b ≡ length a → length (merge_words condition n a b).table ≡ length a
+  pub merged_length : (n : ℕ) (a b : List ℕ) → length b ≡ length a → length (merge_words condition n a b).table ≡ length a
   unfolding merge_words
-  merged-length n [] b h = refl
-  merged-length n (x ∷ a) [] h = absurd (omega arith)
-  merged-length n (x ∷ a) (y ∷ b) h = go (eqb x y) (merged-length n a b (omega arith)) (merged-length (n + 1) a b (omega arith))
+  merged_length n [] b h = refl
+  merged_length n (x ∷ a) [] h = absurd (omega arith)
+  merged_length n (x ∷ a) (y ∷ b) h = go (eqb x y) (merged_length n a b (omega arith)) (merged_length (n + 1) a b (omega arith))
     where
       go : (t : Bool) → length (merge_words condition n a b).table ≡ length a → length (merge_words condition (n + 1) a b).table ≡ length a →
           length (cond t (same_word x (merge_words condition n a b)) (mux_word condition n x y (merge_words condition (n + 1) a b))).table ≡ suc (length a)
@@ -87,25 +87,25 @@ module _ (condition : Operand) where
       go false same other = ap suc other
 
   -- a cell for each entry at most
-  pub merged-few : (n : ℕ) (a b : List ℕ) → length (merge_words condition n a b).cells ≤ length a
+  pub merged_few : (n : ℕ) (a b : List ℕ) → length (merge_words condition n a b).cells ≤ length a
   unfolding merge_words
-  merged-few n [] b = omega arith
-  merged-few n (x ∷ a) [] = omega arith
-  merged-few n (x ∷ a) (y ∷ b) = go (eqb x y) (merged-few n a b) (merged-few (n + 1) a b)
+  merged_few n [] b = omega arith
+  merged_few n (x ∷ a) [] = omega arith
+  merged_few n (x ∷ a) (y ∷ b) = go (eqb x y) (merged_few n a b) (merged_few (n + 1) a b)
     where
       go : (t : Bool) → length (merge_words condition n a b).cells ≤ length a → length (merge_words condition (n + 1) a b).cells ≤ length a →
           length (cond t (same_word x (merge_words condition n a b)) (mux_word condition n x y (merge_words condition (n + 1) a b))).cells ≤ suc (length a)
       go true same other = omega (arith, same)
       go false same other = omega (arith, other)
 
-  pub merged-changes : (n : ℕ) (entry a b : List ℕ) → length a ≡ length entry → length b ≡ length entry →
+  pub merged_changes : (n : ℕ) (entry a b : List ℕ) → length a ≡ length entry → length b ≡ length entry →
       changes entry (merge_words condition n a b).table ≤ changes entry a + changes entry b
   unfolding merge_words changes
-  merged-changes n [] a b h i = omega arith
-  merged-changes n (x ∷ entry) [] b h i = absurd (omega arith)
-  merged-changes n (x ∷ entry) (y ∷ a) [] h i = absurd (omega arith)
-  merged-changes n (x ∷ entry) (y ∷ a) (z ∷ b) h i =
-      go (eqb y z) refl (merged-changes n entry a b (omega arith) (omega arith)) (merged-changes (n + 1) entry a b (omega arith) (omega arith))
+  merged_changes n [] a b h i = omega arith
+  merged_changes n (x ∷ entry) [] b h i = absurd (omega arith)
+  merged_changes n (x ∷ entry) (y ∷ a) [] h i = absurd (omega arith)
+  merged_changes n (x ∷ entry) (y ∷ a) (z ∷ b) h i =
+      go (eqb y z) refl (merged_changes n entry a b (omega arith) (omega arith)) (merged_changes (n + 1) entry a b (omega arith) (omega arith))
     where
       go : (t : Bool) → eqb y z ≡ t → changes entry (merge_words condition n a b).table ≤ changes entry a + changes entry b →
           changes entry (merge_words condition (n + 1) a b).table ≤ changes entry a + changes entry b →
@@ -114,4 +114,4 @@ module _ (condition : Operand) where
       go true e same other = omega (arith, same)
       go false e same other =
           let m : Written = mux_word condition n y z (merge_words condition (n + 1) a b) in
-          omega (arith, other, unlike-either x y z e, unlike-one x (get_or m.table 0 0))
+          omega (arith, other, unlike_either x y z e, unlike_one x (get_or m.table 0 0))

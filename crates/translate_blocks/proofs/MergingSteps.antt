@@ -15,7 +15,7 @@ use Rattle.netlist.specs.declared.Operand.{Operand}
 use Rattle.netlist.specs.declared.Cell.{Cell}
 use Rattle.translate_blocks.specs.Words.{packed, unpacked, Written, same_word, mux_word, merge_words}
 use Rattle.translate_blocks.specs.Writing.{Emits}
-use Rattle.translate_blocks.proofs.EmitLaws.{emits_none, emits_then, emits-as, emits-past}
+use Rattle.translate_blocks.proofs.EmitLaws.{emits_none, emits_then, emits_as, emits_past}
 
 module _ (condition : Operand) where
   -- the merge of one entry
@@ -41,9 +41,9 @@ module _ (condition : Operand) where
       go false = refl
 
   -- words that are the same
-  pub entry-same : (n a b : ℕ) → a ≡ b → entry_words n a b ≡ record { cells = []; table = a ∷ [] }
+  pub entry_same : (n a b : ℕ) → a ≡ b → entry_words n a b ≡ record { cells = []; table = a ∷ [] }
   unfolding merge_words
-  entry-same n a b e = rw (eq-eqb a b e)
+  entry_same n a b e = rw (eq-eqb a b e)
 
   -- words that differ
   pub entry_other : (n a b : ℕ) → (a ≡ b → ⊥) → entry_words n a b ≡
@@ -55,9 +55,9 @@ module _ (condition : Operand) where
   entry_other n a b ne = rw (ne_eqb a b ne)
 
   -- one entry adds at most one cell
-  entry-few : (n a b : ℕ) → length (entry_words n a b).cells ≤ 1
+  entry_few : (n a b : ℕ) → length (entry_words n a b).cells ≤ 1
   unfolding merge_words
-  entry-few n a b = go (eqb a b)
+  entry_few n a b = go (eqb a b)
     where
       go : (same : Bool) → length (first_by same n a b [] []).cells ≤ 1
       go true = omega arith
@@ -73,22 +73,22 @@ module _ (condition : Operand) where
       pub cells : done ++ (merge_words condition count (drop index first) (drop index table)).cells ≡ (merge_words condition n first table₀).cells
       pub words : take index table ++ (merge_words condition count (drop index first) (drop index table)).table ≡ (merge_words condition n first table₀).table
 
-    pub merge-start : length table₀ ≡ length first → MergeGoing 0 out₀ table₀ at n
-    merge-start e = record { done = []; emitted = emits_none; few = omega arith; long = e; cells = refl; words = refl }
+    pub merge_start : length table₀ ≡ length first → MergeGoing 0 out₀ table₀ at n
+    merge_start e = record { done = []; emitted = emits_none; few = omega arith; long = e; cells = refl; words = refl }
 
     -- how far the entries so far have moved the index in the buffer, and the count of cells
-    pub merge-room : {index : ℕ} {out table : List ℕ} {place count : ℕ} → MergeGoing index out table place count →
+    pub merge_room : {index : ℕ} {out table : List ℕ} {place count : ℕ} → MergeGoing index out table place count →
         (place ≤ at + 22 * index) × (count ≤ n + index)
-    merge-room g = omega (arith, emits-past g.emitted, g.emitted.counted, g.few)
+    merge_room g = omega (arith, emits_past g.emitted, g.emitted.counted, g.few)
 
     -- one entry more
-    pub merge-turn : (index : ℕ) {out out' : List ℕ} (table : List ℕ) {table' : List ℕ} {place place' count count' word : ℕ} → index < length first →
+    pub merge_turn : (index : ℕ) {out out' : List ℕ} (table : List ℕ) {table' : List ℕ} {place place' count count' word : ℕ} → index < length first →
         MergeGoing index out table place count →
         Emits out place count (entry_words count (get_or first index 0) (get_or table index 0)).cells out' place' count' →
         word ∷ [] ≡ (entry_words count (get_or first index 0) (get_or table index 0)).table →
         table' ≡ set table index word →
         MergeGoing (index + 1) out' table' place' count'
-    merge-turn index {out} {out'} table {table'} {place} {place'} {count} {count'} {word} h g e w t =
+    merge_turn index {out} {out'} table {table'} {place} {place'} {count} {count'} {word} h g e w t =
         let inside : index < length table = omega (arith, g.long) in
         let entry : Written = entry_words count (get_or first index 0) (get_or table index 0) in
         let rest : Written = merge_words condition (count + length entry.cells) (drop (suc index) first) (drop (suc index) table) in
@@ -102,7 +102,7 @@ module _ (condition : Operand) where
         record {
           done = g.done ++ entry.cells;
           emitted = emits_then g.emitted e;
-          few = omega (arith, g.few, length-append g.done entry.cells, entry-few count (get_or first index 0) (get_or table index 0));
+          few = omega (arith, g.few, length-append g.done entry.cells, entry_few count (get_or first index 0) (get_or table index 0));
           long = ap length t ∙ length-set table index word ∙ g.long;
           cells = ap (λ (m : Written). (g.done ++ entry.cells) ++ m.cells) after ∙ append_assoc g.done entry.cells rest.cells
               ∙ ap (λ (m : Written). g.done ++ m.cells) (sym left) ∙ g.cells;
@@ -111,11 +111,11 @@ module _ (condition : Operand) where
         }
 
     -- no entry is left
-    pub merge-done : {index : ℕ} {out : List ℕ} (table : List ℕ) {place count : ℕ} → length first ≤ index → MergeGoing index out table place count →
+    pub merge_done : {index : ℕ} {out : List ℕ} (table : List ℕ) {place count : ℕ} → length first ≤ index → MergeGoing index out table place count →
         Emits out₀ at n (merge_words condition n first table₀).cells out place count × (table ≡ (merge_words condition n first table₀).table)
     unfolding merge_words
-    merge-done {index} table h g =
+    merge_done {index} table h g =
         let none : drop index first ≡ [] = drop_of_length-le first h in
         let all : take index table ≡ table = take_all index table (omega (arith, g.long)) in
         let cells : g.done ≡ (merge_words condition n first table₀).cells = sym (append-nil g.done) ∙ (rw none at g.cells) in
-        (emits-as (sym cells) g.emitted, sym (append-nil table) ∙ (rw (none, all) at g.words))
+        (emits_as (sym cells) g.emitted, sym (append-nil table) ∙ (rw (none, all) at g.words))

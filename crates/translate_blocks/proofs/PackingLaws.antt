@@ -17,29 +17,29 @@ use Rattle.translate_blocks.specs.Words.{word_of, packed, unpacked}
 use Rattle.translate.proofs.Merging.{same_operand_lem}
 
 -- what a word holds, by its kind
-pub unpacked-constant : (word : ℕ) → word / 2 ^ 32 / 256 ≡ 0 → unpacked word ≡ Operand.Constant (word / 2 ^ 32 % 256) (word % 2 ^ 32)
+pub unpacked_constant : (word : ℕ) → word / 2 ^ 32 / 256 ≡ 0 → unpacked word ≡ Operand.Constant (word / 2 ^ 32 % 256) (word % 2 ^ 32)
 unfolding unpacked
-unpacked-constant word e = rw (eq-eqb (word / 2 ^ 32 / 256) 0 e)
+unpacked_constant word e = rw (eq-eqb (word / 2 ^ 32 / 256) 0 e)
 
-pub unpacked-variable : (word : ℕ) → word / 2 ^ 32 / 256 ≡ 1 → unpacked word ≡ Operand.Variable (word / 2 ^ 32 % 256) (word % 2 ^ 32)
+pub unpacked_variable : (word : ℕ) → word / 2 ^ 32 / 256 ≡ 1 → unpacked word ≡ Operand.Variable (word / 2 ^ 32 % 256) (word % 2 ^ 32)
 unfolding unpacked
-unpacked-variable word e = rw (ne_eqb (word / 2 ^ 32 / 256) 0 (λ z. absurd (omega arith)), eq-eqb (word / 2 ^ 32 / 256) 1 e)
+unpacked_variable word e = rw (ne_eqb (word / 2 ^ 32 / 256) 0 (λ z. absurd (omega arith)), eq-eqb (word / 2 ^ 32 / 256) 1 e)
 
-pub unpacked-cell : (word : ℕ) → (word / 2 ^ 32 / 256 ≡ 0 → ⊥) → (word / 2 ^ 32 / 256 ≡ 1 → ⊥) →
+pub unpacked_cell : (word : ℕ) → (word / 2 ^ 32 / 256 ≡ 0 → ⊥) → (word / 2 ^ 32 / 256 ≡ 1 → ⊥) →
     unpacked word ≡ Operand.Cell (word / 2 ^ 32 % 256) (word % 2 ^ 32)
 unfolding unpacked
-unpacked-cell word no-constant no-variable = rw (ne_eqb (word / 2 ^ 32 / 256) 0 no-constant, ne_eqb (word / 2 ^ 32 / 256) 1 no-variable)
+unpacked_cell word no_constant no-variable = rw (ne_eqb (word / 2 ^ 32 / 256) 0 no_constant, ne_eqb (word / 2 ^ 32 / 256) 1 no-variable)
 
 -- the three parts of a word
 module _ (kind width number : ℕ) (Fits-byte : FitsByte width) (fits-four : FitsFour number) where
-  number-back : word_of kind width number % 2 ^ 32 ≡ number
-  number-back = omega arith
+  number_back : word_of kind width number % 2 ^ 32 ≡ number
+  number_back = omega arith
 
   width_back : word_of kind width number / 2 ^ 32 % 256 ≡ width
   width_back = omega arith
 
-  kind-back : word_of kind width number / 2 ^ 32 / 256 ≡ kind
-  kind-back = omega arith
+  kind_back : word_of kind width number / 2 ^ 32 / 256 ≡ kind
+  kind_back = omega arith
 
 -- the kind tells which operand a word is
 abbrev of_kind : ℕ → ℕ → ℕ → Operand
@@ -47,7 +47,7 @@ of_kind kind width number = cond (eqb kind 0) (Operand.Constant width number) (c
 
 word_back : (kind width number : ℕ) → FitsByte width → FitsFour number → unpacked (word_of kind width number) ≡ of_kind kind width number
 unfolding unpacked
-word_back kind width number b f = rw (kind-back kind width number b f, width_back kind width number b f, number-back kind width number b f)
+word_back kind width number b f = rw (kind_back kind width number b f, width_back kind width number b f, number_back kind width number b f)
 
 -- an operand comes back
 pub unpacked-packed : (o : Operand) → FitsOperand o → unpacked (packed o) ≡ o
@@ -57,15 +57,15 @@ unpacked-packed (Operand.Variable w n) h = word_back 1 w n h.0 h.1
 unpacked-packed (Operand.Cell w n) h = word_back 2 w n h.0 h.1
 
 -- so two operands with the same word are the same
-pub packed-injective : (a b : Operand) → FitsOperand a → FitsOperand b → packed a ≡ packed b → a ≡ b
-packed-injective a b h k e = sym (unpacked-packed a h) ∙ ap unpacked e ∙ unpacked-packed b k
+pub packed_injective : (a b : Operand) → FitsOperand a → FitsOperand b → packed a ≡ packed b → a ≡ b
+packed_injective a b h k e = sym (unpacked-packed a h) ∙ ap unpacked e ∙ unpacked-packed b k
 
 -- an operand is the same as itself
-operand-self : (o : Operand) → same_operand o o ≡ true
+operand_self : (o : Operand) → same_operand o o ≡ true
 unfolding same_operand
-operand-self (Operand.Constant w n) = rw (eq-eqb w w refl, eq-eqb n n refl)
-operand-self (Operand.Variable w n) = rw (eq-eqb w w refl, eq-eqb n n refl)
-operand-self (Operand.Cell w n) = rw (eq-eqb w w refl, eq-eqb n n refl)
+operand_self (Operand.Constant w n) = rw (eq-eqb w w refl, eq-eqb n n refl)
+operand_self (Operand.Variable w n) = rw (eq-eqb w w refl, eq-eqb n n refl)
+operand_self (Operand.Cell w n) = rw (eq-eqb w w refl, eq-eqb n n refl)
 
 -- two tests that hold together
 tests_agree : (s t : Bool) → (s ≡ true → t ≡ true) → (t ≡ true → s ≡ true) → s ≡ t
@@ -74,16 +74,16 @@ tests_agree false true there back = back refl
 tests_agree false false there back = refl
 
 -- the words tell whether two operands are the same
-pub same-packed : (a b : Operand) → FitsOperand a → FitsOperand b → same_operand a b ≡ eqb (packed a) (packed b)
-same-packed a b h k =
+pub same_packed : (a b : Operand) → FitsOperand a → FitsOperand b → same_operand a b ≡ eqb (packed a) (packed b)
+same_packed a b h k =
     tests_agree (same_operand a b) (eqb (packed a) (packed b))
     (λ same. eq-eqb (packed a) (packed b) (ap packed (same_operand_lem a b same)))
-    (λ equal. subst (λ (o : Operand). same_operand a o ≡ true) (packed-injective a b h k (eqb-true (packed a) (packed b) equal)) (operand-self a))
+    (λ equal. subst (λ (o : Operand). same_operand a o ≡ true) (packed_injective a b h k (eqb-true (packed a) (packed b) equal)) (operand_self a))
 
 -- a table copied word by word: one turn, and the end
-pub copy-turn : (copy words : List ℕ) (index : ℕ) {copy' : List ℕ} → index < length words → index < length copy → take index copy ≡ take index words →
+pub copy_turn : (copy words : List ℕ) (index : ℕ) {copy' : List ℕ} → index < length words → index < length copy → take index copy ≡ take index words →
     copy' ≡ set copy index (get_or words index 0) → take (index + 1) copy' ≡ take (index + 1) words
-copy-turn copy words index h i e t =
+copy_turn copy words index h i e t =
     rw (add-one index, t) (take-suc-set copy index (get_or words index 0) i ∙ ap (λ (l : List ℕ). l ++ (get_or words index 0 ∷ [])) e ∙ sym (take-suc words index 0 h))
 
 pub copy_done : (copy words : List ℕ) (index : ℕ) → index ≡ length words → take index copy ≡ take index words → take (length words) copy ≡ words

@@ -1,7 +1,7 @@
 -- A case by two loops over a log of changes: forward over its items, each from the same table, and then backward over what the log says of them.
 -- Throughout, n is how many cells there are before: the next cell's number.
 use Rattle.std.specs.Prelude.{◌≡◌, cond, List, [], ◌∷◌, ◌++◌, ℕ, ◌+◌, ◌-◌, ◌%◌, ◌^◌, ◌≤◌, ◌<◌, eqb, length, get_or, take, drop, set}
-use Rattle.words.specs.declared.TwoOperand.TheVariants as two-operand
+use Rattle.words.specs.declared.TwoOperand.TheVariants as two_operand
 use Rattle.tagged.specs.Fields.{Placed, Field}
 use Rattle.netlist.specs.Fits.{Every}
 use Rattle.netlist.specs.declared.Operand.{Operand}
@@ -74,7 +74,7 @@ arrived w = record { cells = w.cells; marks = []; table = w.table }
 
 -- the equal cell of an item
 abbrev pub equal_cell : Operand → List ℕ → Cell
-equal_cell selector payload = Cell.Two two-operand.Equal 1 selector (item_operand payload)
+equal_cell selector payload = Cell.Two two_operand.Equal 1 selector (item_operand payload)
 
 -- what is kept of an item whose block left some table
 abbrev pub mark_of : List ℕ → ℕ → Written → Mark
@@ -119,7 +119,7 @@ pub record Loggable (m : Mark) : Type 0 where
 
 -- these items stand in the log, from `bottom` up to `top`
 pub record Filed (slots words : List ℕ) (bottom top : ℕ) (marks : List Mark) : Type 0 where
-  pub slots-are : take (top - bottom) (drop bottom slots) ≡ log_slots marks
+  pub slots_are : take (top - bottom) (drop bottom slots) ≡ log_slots marks
   pub words_are : take (top - bottom) (drop bottom words) ≡ log_words marks
   pub rising : bottom ≤ top
   pub within : top ≤ length slots
@@ -130,8 +130,8 @@ pub record Filed (slots words : List ℕ) (bottom top : ℕ) (marks : List Mark)
 pub record ItemLogged (entry table slots words : List ℕ) (top number : ℕ) (table' slots' words' : List ℕ) (top' : ℕ) : Type 0 where
   pub set_back : table' ≡ entry
   pub past : top' ≡ top + changes entry table + 1
-  pub slots-below : take top slots' ≡ take top slots
-  pub words-below : take top words' ≡ take top words
+  pub slots_below : take top slots' ≡ take top slots
+  pub words_below : take top words' ≡ take top words
   pub filed : (bottom : ℕ) (marks : List Mark) → Filed slots words bottom top marks →
       Filed slots' words' bottom top' (marks ++ (record { equal = number; changed = changes_of entry table } ∷ []))
 

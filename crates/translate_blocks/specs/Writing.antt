@@ -1,7 +1,7 @@
 -- What the code of the translation gives, over the bytes of processes: the cells in their order, and the table of words after them.
 -- Throughout, `count` is how many variables there are, n how many cells there are before, and the number d how many levels may be opened.
 use Rattle.std.specs.Prelude.{◌≡◌, cond, List, [], ◌∷◌, ◌++◌, ℕ, zero, suc, ◌+◌, ◌*◌, ◌^◌, ◌≤◌, length, get_or, take, drop, set}
-use Rattle.words.specs.declared.TwoOperand.TheVariants as two-operand
+use Rattle.words.specs.declared.TwoOperand.TheVariants as two_operand
 use Rattle.tagged.specs.Bytes.{Wrote, four_of}
 use Rattle.tagged.specs.Sorts.{on_statement, is_sort}
 use Rattle.tagged.specs.Fields.{Placed, Field, fields_at, all_bytes_of}
@@ -86,7 +86,7 @@ write_items item block selector (f ∷ l) table n =
     let p : List ℕ = f.what.payload in
     let first : Written = item p table (n + 1) in
     by_branch f.what.sort
-    (behind (Cell.Two two-operand.Equal 1 selector (item_operand p) ∷ [])
+    (behind (Cell.Two two_operand.Equal 1 selector (item_operand p) ∷ [])
     (join_words (Operand.Cell 1 n) (n + 1) first (write_items item block selector l table (n + 1 + length first.cells))))
     (block f.what.sort p table n)
     (untouched table)
@@ -144,9 +144,9 @@ write_processes count l table n = write_all (write_process count) (fields_at 0 l
 
 -- the log of a case, in two tables of the same length, is below `top` as it was
 pub record LogKept (top : ℕ) (slots words slots' words' : List ℕ) : Type 0 where
-  pub slots-below : take top slots' ≡ take top slots
-  pub words-below : take top words' ≡ take top words
-  pub slots-long : length slots' ≡ length slots
+  pub slots_below : take top slots' ≡ take top slots
+  pub words_below : take top words' ≡ take top words
+  pub slots_long : length slots' ≡ length slots
   pub words_long : length words' ≡ length words
 
 -- what translating a part does: its cells are written, the table is what it leaves, and the log is kept below `top`

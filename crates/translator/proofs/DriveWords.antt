@@ -34,17 +34,17 @@ module _ (m : Module) {count : ℕ} {t : Tables} (fits : FitsTables count t) (fe
       go true = slot_held fits Kind.NonBlocking v h
       go false = slot_held fits Kind.Blocking v h
 
-  drives-from : (v : ℕ) (ds : List Declaration) → v + length ds ≤ count →
+  drives_from_lem : (v : ℕ) (ds : List Declaration) → v + length ds ≤ count →
       drives_from count firsts (table_words t) v (map mark_of ds) ≡ drives_of m t (registers_from v ds)
   unfolding drives_from marked_drive drives_of registers_from
-  drives-from v [] h = refl
-  drives-from v (input w name ∷ ds) h = drives-from (v + 1) ds (omega arith)
-  drives-from v (register w initial name ∷ ds) h =
-      ap₂ (λ (o : Operand) (l : List Drive). record { variable = v; operand = o } ∷ l) (chosen v (omega arith)) (drives-from (v + 1) ds (omega arith))
+  drives_from_lem v [] h = refl
+  drives_from_lem v (input w name ∷ ds) h = drives_from_lem (v + 1) ds (omega arith)
+  drives_from_lem v (register w initial name ∷ ds) h =
+      ap₂ (λ (o : Operand) (l : List Drive). record { variable = v; operand = o } ∷ l) (chosen v (omega arith)) (drives_from_lem (v + 1) ds (omega arith))
 
-pub drives-of-words : (m : Module) (ds : List Declaration) {t : Tables} → FitsTables (length ds) t → length ds ≤ most_variables → (firsts : List ℕ) →
+pub drives_of_words : (m : Module) (ds : List Declaration) {t : Tables} → FitsTables (length ds) t → length ds ≤ most_variables → (firsts : List ℕ) →
     ((v : ℕ) → v < most_variables → delays_any m.processes v ≡ eqb (get_or firsts v 0 % 2) 1) →
     drives_by (map mark_of ds) firsts (table_words t) ≡ drives_of m t (registers_from 0 ds)
-drives-of-words m ds {t} fits few firsts told =
+drives_of_words m ds {t} fits few firsts told =
     ap (λ (count : ℕ). drives_from count firsts (table_words t) 0 (map mark_of ds)) (length-map ds mark_of)
-    ∙ drives-from m fits few firsts told 0 ds (omega arith)
+    ∙ drives_from_lem m fits few firsts told 0 ds (omega arith)

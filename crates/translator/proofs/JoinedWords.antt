@@ -11,23 +11,23 @@ use Rattle.translate.specs.Tables.{Translated, merge_tables}
 use Rattle.translate_blocks.specs.Words.{Written}
 use Rattle.translate.specs.Translation.{after, joined}
 use Rattle.translate_blocks.specs.Writing.{behind, join_words}
-use Rattle.translator.proofs.MergedWords.{translated_words, merge-tables-words}
-use Rattle.translate.proofs.FittingTables.{FitsTables, merge-tables-fit}
+use Rattle.translator.proofs.MergedWords.{translated_words, merge_tables_words}
+use Rattle.translate.proofs.FittingTables.{FitsTables, merge_tables_fit}
 
 -- what the code gives is what the translation gives, and the operands after it fit
 pub record Gives (count : ℕ) (w : Written) (t : Translated) : Type 0 where
   pub same : w ≡ translated_words t
   pub fits : FitsTables count t.tables
 
-pub gives-by : {count : ℕ} {w v : Written} {t : Translated} → w ≡ v → Gives count v t → Gives count w t
-gives-by e g = record { same = e ∙ g.same; fits = g.fits }
+pub gives_by : {count : ℕ} {w v : Written} {t : Translated} → w ≡ v → Gives count v t → Gives count w t
+gives_by e g = record { same = e ∙ g.same; fits = g.fits }
 
-pub behind-gives : {count : ℕ} {w : Written} {t : Translated} (cells : List Cell) → Gives count w t → Gives count (behind cells w) (after cells t)
-behind-gives cells g = record { same = ap (behind cells) g.same; fits = g.fits }
+pub behind_gives : {count : ℕ} {w : Written} {t : Translated} (cells : List Cell) → Gives count w t → Gives count (behind cells w) (after cells t)
+behind_gives cells g = record { same = ap (behind cells) g.same; fits = g.fits }
 
 -- how far the numbers go
-pub after-number : (n : ℕ) (cells : List Cell) (t : Translated) → n + length (after cells t).cells ≡ n + length cells + length t.cells
-after-number n cells t = omega (arith, length-append cells t.cells)
+pub after_number : (n : ℕ) (cells : List Cell) (t : Translated) → n + length (after cells t).cells ≡ n + length cells + length t.cells
+after_number n cells t = omega (arith, length-append cells t.cells)
 
 pub joined_number : (condition : Operand) (n : ℕ) (a b : Translated) → n + length a.cells + length b.cells ≤ n + length (joined condition n a b).cells
 joined_number condition n a b =
@@ -35,10 +35,10 @@ joined_number condition n a b =
     omega (arith, length-append (a.cells ++ b.cells) merged.cells, length-append a.cells b.cells)
 
 -- two sides and the merge of what they left; the second one's numbers go on from the first's
-pub joined-gives : {count : ℕ} {first : Written} (second : ℕ → Written) {a b : Translated} (condition : Operand) (n : ℕ) →
+pub joined_gives : {count : ℕ} {first : Written} (second : ℕ → Written) {a b : Translated} (condition : Operand) (n : ℕ) →
     n + length (joined condition n a b).cells ≤ 2 ^ 32 → Gives count first a → Gives count (second (n + length a.cells)) b →
     Gives count (join_words condition n first (second (n + length first.cells))) (joined condition n a b)
-joined-gives {first = first} second {a} {b} condition n h p q =
+joined_gives {first = first} second {a} {b} condition n h p q =
     let start : ℕ = n + length a.cells + length b.cells in
     let merged : Translated = merge_tables condition start a.tables b.tables in
     let all = length-append (a.cells ++ b.cells) merged.cells in
@@ -48,7 +48,7 @@ joined-gives {first = first} second {a} {b} condition n h p q =
           ap (λ (w : Written). join_words condition n w (second (n + length w.cells))) p.same
           ∙ ap (join_words condition n (translated_words a)) q.same
           ∙ ap (behind (a.cells ++ b.cells))
-          (merge-tables-words condition start a.tables b.tables (p.fits.current-count ∙ sym q.fits.current-count)
+          (merge_tables_words condition start a.tables b.tables (p.fits.current_count ∙ sym q.fits.current_count)
           p.fits.current q.fits.current p.fits.pending q.fits.pending);
-      fits = merge-tables-fit condition start p.fits q.fits (omega arith);
+      fits = merge_tables_fit condition start p.fits q.fits (omega arith);
     }

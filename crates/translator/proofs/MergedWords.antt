@@ -10,7 +10,7 @@ use Rattle.netlist.specs.Fits.{FitsOperand, Every}
 use Rattle.netlist.specs.declared.Operand.{Operand}
 use Rattle.translate.specs.Tables.{Tables, same_operand, Merged, kept, muxed, merge, Translated, merge_tables}
 use Rattle.translate_blocks.specs.Words.{packed, Written, same_word, mux_word, merge_words}
-use Rattle.translate_blocks.proofs.PackingLaws.{unpacked-packed, same-packed}
+use Rattle.translate_blocks.proofs.PackingLaws.{unpacked-packed, same_packed}
 
 -- the words of tables of operands: the current ones, then the pending ones
 abbrev pub table_words : Tables → List ℕ
@@ -23,13 +23,13 @@ merged_words m = record { cells = m.cells; table = map packed m.operands }
 abbrev pub translated_words : Translated → Written
 translated_words t = record { cells = t.cells; table = table_words t.tables }
 
-pub merge-words : (condition : Operand) (n : ℕ) (a b : List Operand) → Every FitsOperand a → Every FitsOperand b →
+pub merge_words_lem : (condition : Operand) (n : ℕ) (a b : List Operand) → Every FitsOperand a → Every FitsOperand b →
     merge_words condition n (map packed a) (map packed b) ≡ merged_words (merge condition n a b)
 unfolding merge_words merge
-merge-words condition n [] bs f g = refl
-merge-words condition n (a ∷ as') [] f g = refl
-merge-words condition n (a ∷ as') (b ∷ bs) (fa, fas) (fb, fbs) =
-    rw (merge-words condition n as' bs fas fbs, merge-words condition (n + 1) as' bs fas fbs, unpacked-packed a fa, unpacked-packed b fb, ← (same-packed a b fa fb))
+merge_words_lem condition n [] bs f g = refl
+merge_words_lem condition n (a ∷ as') [] f g = refl
+merge_words_lem condition n (a ∷ as') (b ∷ bs) (fa, fas) (fb, fbs) =
+    rw (merge_words_lem condition n as' bs fas fbs, merge_words_lem condition (n + 1) as' bs fas fbs, unpacked-packed a fa, unpacked-packed b fb, ← (same_packed a b fa fb))
     (go (same_operand a b))
   where
     go : (t : Bool) →
@@ -47,14 +47,14 @@ merge_both condition n a b c d =
     let first : Written = merge_words condition n a b in
     both_merged first (merge_words condition (n + length first.cells) c d)
 
-merge-append : (condition : Operand) (n : ℕ) (a b c d : List ℕ) → length a ≡ length b →
+merge_append : (condition : Operand) (n : ℕ) (a b c d : List ℕ) → length a ≡ length b →
     merge_words condition n (a ++ c) (b ++ d) ≡ merge_both condition n a b c d
 unfolding merge_words
-merge-append condition n [] [] c d e = ap (λ (k : ℕ). merge_words condition k c d) (omega arith)
-merge-append condition n [] (y ∷ b) c d e = absurd (omega arith)
-merge-append condition n (x ∷ a) [] c d e = absurd (omega arith)
-merge-append condition n (x ∷ a) (y ∷ b) c d e =
-    rw (merge-append condition n a b c d (omega arith), merge-append condition (n + 1) a b c d (omega arith)) (go (eqb x y))
+merge_append condition n [] [] c d e = ap (λ (k : ℕ). merge_words condition k c d) (omega arith)
+merge_append condition n [] (y ∷ b) c d e = absurd (omega arith)
+merge_append condition n (x ∷ a) [] c d e = absurd (omega arith)
+merge_append condition n (x ∷ a) (y ∷ b) c d e =
+    rw (merge_append condition n a b c d (omega arith), merge_append condition (n + 1) a b c d (omega arith)) (go (eqb x y))
   where
     go : (t : Bool) →
         cond t (same_word x (merge_both condition n a b c d)) (mux_word condition n x y (merge_both condition (n + 1) a b c d)) ≡
@@ -65,14 +65,14 @@ merge-append condition n (x ∷ a) (y ∷ b) c d e =
         let more : Written = merge_words condition (n + 1) a b in
         ap (λ (k : ℕ). mux_word condition n x y (both_merged more (merge_words condition k c d))) (omega arith)
 
-pub merge-tables-words : (condition : Operand) (n : ℕ) (a b : Tables) → length a.current ≡ length b.current →
+pub merge_tables_words : (condition : Operand) (n : ℕ) (a b : Tables) → length a.current ≡ length b.current →
     Every FitsOperand a.current → Every FitsOperand b.current → Every FitsOperand a.pending → Every FitsOperand b.pending →
     merge_words condition n (table_words a) (table_words b) ≡ translated_words (merge_tables condition n a b)
 unfolding merge_tables
-merge-tables-words condition n a b e fa fb ga gb =
+merge_tables_words condition n a b e fa fb ga gb =
     let lengths : length (map packed a.current) ≡ length (map packed b.current) = omega (arith, length-map a.current packed, length-map b.current packed) in
     let first : Merged = merge condition n a.current b.current in
-    merge-append condition n (map packed a.current) (map packed b.current) (map packed a.pending) (map packed b.pending) lengths
+    merge_append condition n (map packed a.current) (map packed b.current) (map packed a.pending) (map packed b.pending) lengths
     ∙ ap (λ (w : Written). both_merged w (merge_words condition (n + length w.cells) (map packed a.pending) (map packed b.pending)))
-    (merge-words condition n a.current b.current fa fb)
-    ∙ ap (both_merged (merged_words first)) (merge-words condition (n + length first.cells) a.pending b.pending ga gb)
+    (merge_words_lem condition n a.current b.current fa fb)
+    ∙ ap (both_merged (merged_words first)) (merge_words_lem condition (n + length first.cells) a.pending b.pending ga gb)

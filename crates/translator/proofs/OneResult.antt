@@ -6,5 +6,5 @@ use Rattle.tagged.specs.declared.answers.Translation.{Translation}
 use Rattle.tagged.proofs.AnswerLaws.{coincide}
 use Rattle.translator.specs.Calls.{TranslateCall}
 
-pub translate-once : (file buffer : List ℕ) {a b : Translation} {left held : List ℕ} → TranslateCall file buffer a left → TranslateCall file buffer b held → (a ≡ b) × (left ≡ held)
-translate-once file buffer p q = coincide p q
+pub translate_once : (file buffer : List ℕ) {a b : Translation} {left held : List ℕ} → TranslateCall file buffer a left → TranslateCall file buffer b held → (a ≡ b) × (left ≡ held)
+translate_once file buffer p q = coincide p q

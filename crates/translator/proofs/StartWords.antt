@@ -10,10 +10,10 @@ use Rattle.translate_blocks.specs.Ends.{start_from, start_words}
 use Rattle.translator.proofs.MergedWords.{table_words}
 
 -- these are the words of the variables themselves
-start-from : (v : ℕ) (ds : List Declaration) → start_from v (map width_of ds) ≡ map packed (themselves v ds)
+start_from_lem : (v : ℕ) (ds : List Declaration) → start_from v (map width_of ds) ≡ map packed (themselves v ds)
 unfolding start_from themselves
-start-from v [] = refl
-start-from v (d ∷ ds) = ap (λ (l : List ℕ). packed (Operand.Variable (width_of d) v) ∷ l) (start-from (v + 1) ds)
+start_from_lem v [] = refl
+start_from_lem v (d ∷ ds) = ap (λ (l : List ℕ). packed (Operand.Variable (width_of d) v) ∷ l) (start_from_lem (v + 1) ds)
 
-pub start-words : (ds : List Declaration) → start_words (map width_of ds) ≡ table_words (record { current = themselves 0 ds; pending = themselves 0 ds })
-start-words ds = ap (λ (l : List ℕ). l ++ l) (start-from 0 ds)
+pub start_words_lem : (ds : List Declaration) → start_words (map width_of ds) ≡ table_words (record { current = themselves 0 ds; pending = themselves 0 ds })
+start_words_lem ds = ap (λ (l : List ℕ). l ++ l) (start_from_lem 0 ds)

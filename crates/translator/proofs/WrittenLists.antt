@@ -6,13 +6,13 @@ use lib.ListN.{length}
 use Rattle.tagged.specs.Sorts.{tag_of}
 use Rattle.tagged.specs.Fields.{field_bytes, Placed, Field, read_from, fields_at}
 use Rattle.tagged.specs.declared.sorts.Sort.{Sort}
-use Rattle.verilog.proofs.WrittenFields.{fields-field}
+use Rattle.verilog.proofs.WrittenFields.{fields_field}
 use Rattle.translate.specs.Tables.{Tables, Translated}
 use Rattle.translate_blocks.specs.Words.{Written}
 use Rattle.translate.specs.Translation.{after}
 use Rattle.translate_blocks.specs.Writing.{Translator, behind, write_all}
 use Rattle.translate.proofs.FittingTables.{FitsTables}
-use Rattle.translator.proofs.JoinedWords.{Gives, gives-by, behind-gives}
+use Rattle.translator.proofs.JoinedWords.{Gives, gives_by, behind_gives}
 use Rattle.translator.proofs.MergedWords.{table_words}
 
 -- these bytes are one field, which the code translates so
@@ -24,20 +24,20 @@ pub record Leads (count : ℕ) (translate : Translator) (bytes table : List ℕ)
   pub gives : Gives count (translate sort payload table n) t
 
 -- and then the fields that follow
-pub leads-on : {count : ℕ} {translate : Translator} {bytes table : List ℕ} {n : ℕ} {t u : Translated} → Leads count translate bytes table n t → (after' : List ℕ) →
+pub leads_on : {count : ℕ} {translate : Translator} {bytes table : List ℕ} {n : ℕ} {t u : Translated} → Leads count translate bytes table n t → (after' : List ℕ) →
     ((base : ℕ) → Gives count (write_all translate (fields_at base after') (table_words t.tables) (n + length t.cells)) u) →
     (base : ℕ) → Gives count (write_all translate (fields_at base (bytes ++ after')) table n) (after t.cells u)
 unfolding write_all
-leads-on {translate = translate} {table = table} {n} {t} x after' rest base =
+leads_on {translate = translate} {table = table} {n} {t} x after' rest base =
     let next : ℕ = base + (length x.payload + 3) in
-    gives-by
+    gives_by
     (ap (λ (l : List ℕ). write_all translate (fields_at base (l ++ after')) table n) x.field
-    ∙ ap (λ (l : List (Placed Field)). write_all translate l table n) (fields-field x.sort x.payload after' x.short base)
+    ∙ ap (λ (l : List (Placed Field)). write_all translate l table n) (fields_field x.sort x.payload after' x.short base)
     ∙ ap (λ (w : Written). behind w.cells (write_all translate (fields_at next after') w.table (n + length w.cells))) x.gives.same)
-    (behind-gives t.cells (rest next))
+    (behind_gives t.cells (rest next))
 
 -- no field follows
-pub none-gives : (count : ℕ) (translate : Translator) {t : Tables} (n base : ℕ) → FitsTables count t →
+pub none_gives : (count : ℕ) (translate : Translator) {t : Tables} (n base : ℕ) → FitsTables count t →
     Gives count (write_all translate (fields_at base []) (table_words t) n) (record { cells = []; tables = t })
 unfolding write_all fields_at read_from
-none-gives count translate n base f = record { same = refl; fits = f }
+none_gives count translate n base f = record { same = refl; fits = f }

@@ -7,8 +7,8 @@ use Rattle.tagged.specs.Rows.{row_bytes, row_numbers}
 use Rattle.tagged.specs.Cycles.{with_inputs}
 use Rattle.tagged.specs.declared.answers.Answer.{Answer}
 use Rattle.tagged.specs.declared.answers.Translation.{Translation}
-use Rattle.netlist.specs.Run as netlist-run
-use Rattle.verilog.specs.Run as module-run
+use Rattle.netlist.specs.Run as netlist_run
+use Rattle.verilog.specs.Run as module_run
 use Rattle.translate.specs.Answer.{translate_answer, translate_buffer}
 
 -- what the contract of `translate` admits: a file, the buffer lent, the answer, and what the buffer holds then
@@ -21,10 +21,10 @@ RunCall = (row next : List ℕ) → Answer → List ℕ → Type 0
 
 -- a module's run, and a netlist's
 abbrev pub module_call : List ℕ → RunCall
-module_call file row next answer left = Promise (module-run.run_answer file row (length next)) (module-run.run_leaves file row next) answer left
+module_call file row next answer left = Promise (module_run.run_answer file row (length next)) (module_run.run_leaves file row next) answer left
 
 abbrev pub netlist_call : List ℕ → RunCall
-netlist_call file row next answer left = Promise (netlist-run.run_answer file row (length next)) (netlist-run.run_leaves file row next) answer left
+netlist_call file row next answer left = Promise (netlist_run.run_answer file row (length next)) (netlist_run.run_leaves file row next) answer left
 
 -- one call for each input row: the answers, and the bytes that each call left in a row that was lent with any bytes in it
 pub data Calls (run : RunCall) (ds : List Declaration) : (row : List ℕ) → (inputs : List (List ℕ)) → List Answer → List (List ℕ) → Type 0 where

@@ -4,12 +4,12 @@ use mathlib.Core.List.{List, [], ◌∷◌, Memᴰ}
 use Rattle.verilog.specs.Fits.{All}
 
 module _ {A : Type 0} (P : A → Type 0) where
-  pub all-member : (a : A) {l : List A} → All P l → Memᴰ a l → P a
+  pub all_member : (a : A) {l : List A} → All P l → Memᴰ a l → P a
   unfolding All
-  all-member a h (Memᴰ.head e) = rw e h.0
-  all-member a h (Memᴰ.tail m) = all-member a h.1 m
+  all_member a h (Memᴰ.head e) = rw e h.0
+  all_member a h (Memᴰ.tail m) = all_member a h.1 m
 
-  pub member-all : (l : List A) → ((a : A) → Memᴰ a l → P a) → All P l
+  pub member_all : (l : List A) → ((a : A) → Memᴰ a l → P a) → All P l
   unfolding All
-  member-all [] h = tt
-  member-all (a ∷ l) h = (h a (Memᴰ.head refl), member-all l (λ b m. h b (Memᴰ.tail m)))
+  member_all [] h = tt
+  member_all (a ∷ l) h = (h a (Memᴰ.head refl), member_all l (λ b m. h b (Memᴰ.tail m)))

@@ -18,7 +18,7 @@ use Rattle.tagged.specs.Declarations as declarations
 use Rattle.tagged.specs.Declarations.{input, register}
 use Rattle.tagged.specs.declared.sorts.Kind.TheVariants as Kind
 use Rattle.tagged.proofs.Cases.{answering}
-use Rattle.words.specs.declared.TwoOperand.TheVariants as two-operand
+use Rattle.words.specs.declared.TwoOperand.TheVariants as two_operand
 use Rattle.verilog.specs.Tree.{constant, variable, fixed_bit, chosen_bit, two, Statement, assign, assign_bit, if_else, end, ◌then◌, Module}
 use Rattle.verilog.specs.Form as form
 use Rattle.verilog.specs.Reading as reading
@@ -67,7 +67,7 @@ table =
     ∷ case (checking (assign Kind.Blocking 1 (constant 4 16))) 3024
     ∷ case (checking (assign Kind.Blocking 1 (constant 4 15))) 0
     ∷ case (checking (assign Kind.Blocking 1 (variable 0))) 7020
-    ∷ case (checking (assign Kind.Blocking 1 (two two-operand.Add (variable 1) (variable 0)))) 7024
+    ∷ case (checking (assign Kind.Blocking 1 (two two_operand.Add (variable 1) (variable 0)))) 7024
     ∷ case (checking (if_else (variable 1) end end)) 7020
     ∷ case (checking (assign_bit Kind.Blocking 1 4 (variable 0))) 8020
     ∷ case (checking (assign_bit Kind.Blocking 1 3 (fixed_bit 1 4))) 8025

@@ -11,8 +11,8 @@ use Rattle.tagged.specs.Refusals.{first_broken, or_else}
 use Rattle.tagged.specs.Declarations.{Declaration, declaration_bytes, declaration_breaks, declaration_broken}
 use Rattle.tagged.specs.declared.answers.Rule.{Rule}
 use Rattle.tagged.specs.declared.answers.Found.{Found}
-use Rattle.tagged.proofs.RefusalLaws.{nowhere-both}
-use Rattle.tagged.proofs.FoundLaws.{found-append}
+use Rattle.tagged.proofs.RefusalLaws.{nowhere_both}
+use Rattle.tagged.proofs.FoundLaws.{found_append}
 use Rattle.verilog.specs.Tree.{Module}
 use Rattle.verilog.specs.Nodes.{declaration, Node, declaration_nodes, process_nodes, module_nodes}
 use Rattle.verilog.specs.Rules.{declarations_of, breaks, module_broken}
@@ -27,61 +27,61 @@ abbrev pub declaration_node : Declaration → Node
 declaration_node d = record { in_process = 0; what = declaration d }
 
 -- the fields of declarations, without places
-pub declared-nodes : (at : ℕ) (l : List Declaration) → unplaced (declaration_nodes at l) ≡ map declaration_node l
+pub declared_nodes : (at : ℕ) (l : List Declaration) → unplaced (declaration_nodes at l) ≡ map declaration_node l
 unfolding declaration_nodes
-declared-nodes at [] = refl
-declared-nodes at (d ∷ l) = ap (λ (k : List Node). declaration_node d ∷ k) (declared-nodes (at + length (declaration_bytes d)) l)
+declared_nodes at [] = refl
+declared_nodes at (d ∷ l) = ap (λ (k : List Node). declaration_node d ∷ k) (declared_nodes (at + length (declaration_bytes d)) l)
 
 -- the declarations among their own fields
-nodes-back : (l : List Declaration) → declarations_of (map declaration_node l) ≡ l
-nodes-back [] = refl
-nodes-back (d ∷ l) = ap (λ (k : List Declaration). d ∷ k) (nodes-back l)
+nodes_back : (l : List Declaration) → declarations_of (map declaration_node l) ≡ l
+nodes_back [] = refl
+nodes_back (d ∷ l) = ap (λ (k : List Declaration). d ∷ k) (nodes_back l)
 
 module _ (ds : List Declaration) (all : List Node) where
   -- the test of a declaration's field is that of the declaration
-  declared-test : (rule : Rule) (earlier : List Node) (d : Declaration) → breaks ds all rule earlier (declaration_node d) ≡ declaration_breaks rule (declarations_of earlier) d
+  declared_test : (rule : Rule) (earlier : List Node) (d : Declaration) → breaks ds all rule earlier (declaration_node d) ≡ declaration_breaks rule (declarations_of earlier) d
   unfolding breaks declaration_breaks
-  declared-test Rule.Value earlier d = refl
-  declared-test Rule.Name earlier d = refl
-  declared-test Rule.Count earlier d = refl
-  declared-test Rule.Reference earlier d = refl
-  declared-test Rule.Widths earlier d = refl
-  declared-test Rule.BitNumber earlier d = refl
-  declared-test Rule.BothKinds earlier d = refl
-  declared-test Rule.TwoProcesses earlier d = refl
-  declared-test Rule.ReadElsewhere earlier d = refl
-  declared-test Rule.FileLength earlier d = refl
-  declared-test Rule.Form earlier d = refl
-  declared-test Rule.Cells earlier d = refl
-  declared-test Rule.Buffer earlier d = refl
-  declared-test Rule.Row earlier d = refl
+  declared_test Rule.Value earlier d = refl
+  declared_test Rule.Name earlier d = refl
+  declared_test Rule.Count earlier d = refl
+  declared_test Rule.Reference earlier d = refl
+  declared_test Rule.Widths earlier d = refl
+  declared_test Rule.BitNumber earlier d = refl
+  declared_test Rule.BothKinds earlier d = refl
+  declared_test Rule.TwoProcesses earlier d = refl
+  declared_test Rule.ReadElsewhere earlier d = refl
+  declared_test Rule.FileLength earlier d = refl
+  declared_test Rule.Form earlier d = refl
+  declared_test Rule.Cells earlier d = refl
+  declared_test Rule.Buffer earlier d = refl
+  declared_test Rule.Row earlier d = refl
 
   -- so the first place among their fields is the first among them
-  declared-found : (rule : Rule) (before : List Declaration) (at : ℕ) (l : List Declaration) →
+  declared_found : (rule : Rule) (before : List Declaration) (at : ℕ) (l : List Declaration) →
       first_broken (breaks ds all rule) (map declaration_node before) (declaration_nodes at l) ≡ first_broken (declaration_breaks rule) before (placed_by declaration_bytes at l)
   unfolding first_broken declaration_nodes placed_by
-  declared-found rule before at [] = refl
-  declared-found rule before at (d ∷ l) =
-      let test = declared-test rule (map declaration_node before) d ∙ ap (λ (k : List Declaration). declaration_breaks rule k d) (nodes-back before) in
-      let later = declared-found rule (before ++ (d ∷ [])) (at + length (declaration_bytes d)) l in
+  declared_found rule before at [] = refl
+  declared_found rule before at (d ∷ l) =
+      let test = declared_test rule (map declaration_node before) d ∙ ap (λ (k : List Declaration). declaration_breaks rule k d) (nodes_back before) in
+      let later = declared_found rule (before ++ (d ∷ [])) (at + length (declaration_bytes d)) l in
       ap₂ (λ (t : Bool) (f : Found). choose t (λ _. Found.At at) (λ _. f)) test (rw map-append at later)
 
 module _ (m : Module) (base : ℕ) where
   -- the first place among the declarations, or else among the fields of the processes, which stand after all declarations
-  pub module-found : (rule : Rule) →
+  pub module_found : (rule : Rule) →
       module_broken base m rule
       ≡ or_else (declaration_broken rule base m.declarations)
       (first_broken (breaks m.declarations (unplaced (module_nodes base m)) rule) (map declaration_node m.declarations)
       (process_nodes 0 (base + length (all_bytes_of declaration_bytes m.declarations)) m.processes))
   unfolding module_broken module_nodes
-  module-found rule =
+  module_found rule =
       let test = breaks m.declarations (unplaced (module_nodes base m)) rule in
       let declared = declaration_nodes base m.declarations in
       let rest = process_nodes 0 (base + length (all_bytes_of declaration_bytes m.declarations)) m.processes in
-      found-append test [] declared rest
+      found_append test [] declared rest
       ∙ ap₂ (λ (f : Found) (l : List Node). or_else f (first_broken test l rest))
-      (declared-found m.declarations (unplaced (module_nodes base m)) rule [] base m.declarations) (declared-nodes base m.declarations)
+      (declared_found m.declarations (unplaced (module_nodes base m)) rule [] base m.declarations) (declared_nodes base m.declarations)
 
   -- no place in the module: none among its declarations
-  pub declarations-kept : (rule : Rule) → module_broken base m rule ≡ Found.Nowhere → declaration_broken rule base m.declarations ≡ Found.Nowhere
-  declarations-kept rule e = (nowhere-both _ _ (sym (module-found rule) ∙ e)).0
+  pub declarations_kept : (rule : Rule) → module_broken base m rule ≡ Found.Nowhere → declaration_broken rule base m.declarations ≡ Found.Nowhere
+  declarations_kept rule e = (nowhere_both _ _ (sym (module_found rule) ∙ e)).0

@@ -13,17 +13,17 @@ use Rattle.tagged.specs.declared.fields.Judged.{Judged}
 use Rattle.tagged.specs.declared.fields.Step.{Step}
 use Rattle.tagged.specs.Fields.{field_bytes, Judge, Body, field_by, then_by, ended}
 use Rattle.tagged.proofs.ByteLaws.{bytes_drop, bytes_take}
-use Rattle.tagged.proofs.SortLaws.{sort-back, tag_back}
-use Rattle.tagged.proofs.FieldLaws.{Whole, whole_open, field-passed, passed-field}
+use Rattle.tagged.proofs.SortLaws.{sort_back, tag_back}
+use Rattle.tagged.proofs.FieldLaws.{Whole, whole_open, field_passed, passed_field}
 use Rattle.tagged.proofs.RunLaws.{Known}
-use Rattle.tagged.proofs.JudgeLaws.{then-tells, ended-tells, then-written, last_written}
-use Rattle.tagged.proofs.ListBytes.{whole-bytes, field-whole, field-payload, field-length, Stands}
+use Rattle.tagged.proofs.JudgeLaws.{then_tells, ended_tells, then_written, last_written}
+use Rattle.tagged.proofs.ListBytes.{whole_bytes, field_whole, field_payload, field_length, Stands}
 use Rattle.verilog.specs.Reading.{front_by, after_front}
 
 -- what follows a field that was passed
-pub after-passed : (body : Body) (base owner : ℕ) (l : List ℕ) (m : ℕ) → field_by body base owner l ≡ Step.Past m → after_front l ≡ drop m l
-after-passed body base owner l m e =
-    let p = field-passed body base owner l m e in
+pub after_passed : (body : Body) (base owner : ℕ) (l : List ℕ) (m : ℕ) → field_by body base owner l ≡ Step.Past m → after_front l ≡ drop m l
+after_passed body base owner l m e =
+    let p = field_passed body base owner l m e in
     rw (whole_open 0 0 l p.whole, ← p.bytes)
 
 -- from bytes: a judge, a reader by sort and payload, and a writer
@@ -38,15 +38,15 @@ module _ {A : Type 0} (wanted : Sort → Bool) (body : Body) (read : Sort → Li
   Returns = (base : ℕ) (s : Sort) (payload : List ℕ) → AllBytes payload → body base s payload ≡ Judged.Fine → Returned s payload
 
   module _ (known : Known wanted) (returns : Returns) (none : A) (base owner : ℕ) (l : List ℕ) (h : AllBytes l) where
-    pub front-written : (m : ℕ) → field_by body base owner l ≡ Step.Past m → take m l ≡ bytes (front_by read none l)
-    front-written m e =
-        let p = field-passed body base owner l m e in
+    pub front_written : (m : ℕ) → field_by body base owner l ≡ Step.Past m → take m l ≡ bytes (front_by read none l)
+    front_written m e =
+        let p = field_passed body base owner l m e in
         let part = take p.size (drop 3 l) in
         let r = returns base p.sort part (bytes_take p.size (drop 3 l) (bytes_drop 3 l h)) p.fine in
         let here = p.whole.sort in
         let tag : tag_of p.sort ≡ get_or l 0 0 = ap tag_of here ∙ tag_back (get_or l 0 0) (λ z. known p.sort r.is (ap tag_of here ∙ z)) in
         let opened : front_by read none l ≡ read p.sort part = rw (whole_open 0 0 l p.whole) in
-        ap (λ (n : ℕ). take n l) p.bytes ∙ whole-bytes l h p.whole ∙ ap (λ (t : ℕ). field_bytes t part) (sym tag) ∙ sym r.written ∙ ap bytes (sym opened)
+        ap (λ (n : ℕ). take n l) p.bytes ∙ whole_bytes l h p.whole ∙ ap (λ (t : ℕ). field_bytes t part) (sym tag) ∙ sym r.written ∙ ap bytes (sym opened)
 
     -- the field at the front and what follows it
     pub record Fronts (next : Judge) : Type 0 where
@@ -55,23 +55,23 @@ module _ {A : Type 0} (wanted : Sort → Bool) (body : Body) (read : Sort → Li
       pub left : AllBytes (after_front l)
       pub written : bytes (front_by read none l) ++ after_front l ≡ l
 
-    pub next-returns : (next : Judge) → then_by (field_by body) next base owner l ≡ Judged.Fine → Fronts next
-    next-returns next e =
-        let t = then-tells (field_by body) next base owner l e in
-        let after = after-passed body base owner l t.size t.passed in
+    pub next_returns : (next : Judge) → then_by (field_by body) next base owner l ≡ Judged.Fine → Fronts next
+    next_returns next e =
+        let t = then_tells (field_by body) next base owner l e in
+        let after = after_passed body base owner l t.size t.passed in
         record {
           place = base + t.size;
           rest = rw after t.rest;
           left = rw after (bytes_drop t.size l h);
-          written = ap₂ (λ (a b : List ℕ). a ++ b) (sym (front-written t.size t.passed)) after ∙ take-append-drop t.size l;
+          written = ap₂ (λ (a b : List ℕ). a ++ b) (sym (front_written t.size t.passed)) after ∙ take-append-drop t.size l;
         }
 
     -- nothing follows it
-    pub last-returns : then_by (field_by body) ended base owner l ≡ Judged.Fine → bytes (front_by read none l) ≡ l
-    last-returns e =
-        let t = then-tells (field_by body) ended base owner l e in
-        let over = ended-tells (base + t.size) owner (drop t.size l) t.rest in
-        sym (front-written t.size t.passed) ∙ take_all t.size l (omega (arith, length-drop t.size l))
+    pub last_returns : then_by (field_by body) ended base owner l ≡ Judged.Fine → bytes (front_by read none l) ≡ l
+    last_returns e =
+        let t = then_tells (field_by body) ended base owner l e in
+        let over = ended_tells (base + t.size) owner (drop t.size l) t.rest in
+        sym (front_written t.size t.passed) ∙ take_all t.size l (omega (arith, length-drop t.size l))
 
 -- to bytes: how a written payload is judged and read
 
@@ -80,38 +80,38 @@ module _ {A : Type 0} {wanted : Sort → Bool} {body : Body} {read : Sort → Li
   whole : Whole (bytes a ++ after) x.sort (length x.payload)
   whole =
       subst (λ (l : List ℕ). Whole (l ++ after) x.sort (length x.payload)) (sym x.field)
-      (subst (λ (s : Sort). Whole (field_bytes (tag_of x.sort) x.payload ++ after) s (length x.payload)) (sort-back x.sort)
-      (field-whole (tag_of x.sort) x.payload after x.short))
+      (subst (λ (s : Sort). Whole (field_bytes (tag_of x.sort) x.payload ++ after) s (length x.payload)) (sort_back x.sort)
+      (field_whole (tag_of x.sort) x.payload after x.short))
 
   inside : take (length x.payload) (drop 3 (bytes a ++ after)) ≡ x.payload
-  inside = rw x.field (field-payload (tag_of x.sort) x.payload after)
+  inside = rw x.field (field_payload (tag_of x.sort) x.payload after)
 
-  pub stands-passed : (base owner : ℕ) → field_by body base owner (bytes a ++ after) ≡ Step.Past (length (bytes a))
-  stands-passed base owner =
-      passed-field body base owner (bytes a ++ after) (length (bytes a))
+  pub stands_passed : (base owner : ℕ) → field_by body base owner (bytes a ++ after) ≡ Step.Past (length (bytes a))
+  stands_passed base owner =
+      passed_field body base owner (bytes a ++ after) (length (bytes a))
       (record {
         sort = x.sort;
         size = length x.payload;
         whole = whole;
         fine = rw inside (x.fine base);
         bytes = rw x.field
-            (field-length (tag_of x.sort) x.payload);
+            (field_length (tag_of x.sort) x.payload);
       })
 
-  pub stands-front : (none : A) → front_by read none (bytes a ++ after) ≡ a
-  stands-front none = rw (whole_open 0 0 (bytes a ++ after) whole, inside) x.back
+  pub stands_front : (none : A) → front_by read none (bytes a ++ after) ≡ a
+  stands_front none = rw (whole_open 0 0 (bytes a ++ after) whole, inside) x.back
 
   pub stands_after : after_front (bytes a ++ after) ≡ after
-  stands_after = after-passed body 0 0 (bytes a ++ after) (length (bytes a)) (stands-passed 0 0) ∙ drop_at (bytes a) after (length (bytes a)) refl
+  stands_after = after_passed body 0 0 (bytes a ++ after) (length (bytes a)) (stands_passed 0 0) ∙ drop_at (bytes a) after (length (bytes a)) refl
 
-  pub next-stands : (next : Judge) (base owner : ℕ) → next (base + length (bytes a)) owner after ≡ Judged.Fine →
+  pub next_stands : (next : Judge) (base owner : ℕ) → next (base + length (bytes a)) owner after ≡ Judged.Fine →
       then_by (field_by body) next base owner (bytes a ++ after) ≡ Judged.Fine
-  next-stands next base owner q = then-written (field_by body) next base owner (bytes a) after (stands-passed base owner) q
+  next_stands next base owner q = then_written (field_by body) next base owner (bytes a) after (stands_passed base owner) q
 
 -- where nothing follows
 module _ {A : Type 0} {wanted : Sort → Bool} {body : Body} {read : Sort → List ℕ → A} {bytes : A → List ℕ} {a : A} (x : Stands wanted body read bytes a) where
-  pub last-stands : (base owner : ℕ) → then_by (field_by body) ended base owner (bytes a) ≡ Judged.Fine
-  last-stands base owner = last_written (field_by body) base owner (bytes a) (stands-passed x [] base owner)
+  pub last_stands : (base owner : ℕ) → then_by (field_by body) ended base owner (bytes a) ≡ Judged.Fine
+  last_stands base owner = last_written (field_by body) base owner (bytes a) (stands_passed x [] base owner)
 
-  pub last-front : (none : A) → front_by read none (bytes a) ≡ a
-  last-front none = ap (λ (l : List ℕ). front_by read none l) (sym (append-nil (bytes a))) ∙ stands-front x [] none
+  pub last_front : (none : A) → front_by read none (bytes a) ≡ a
+  last_front none = ap (λ (l : List ℕ). front_by read none l) (sym (append-nil (bytes a))) ∙ stands_front x [] none

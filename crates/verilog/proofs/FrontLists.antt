@@ -11,24 +11,24 @@ use Rattle.tagged.specs.declared.sorts.Sort.{Sort}
 use Rattle.tagged.specs.declared.fields.Judged.{Judged}
 use Rattle.tagged.specs.declared.fields.Step.{Step}
 use Rattle.tagged.specs.Fields.{all_bytes_of, Body, field_by, many, until_end}
-use Rattle.tagged.proofs.RunLaws.{Known, until-run, list_in, run-listed}
-use Rattle.tagged.proofs.ListBytes.{Run, many-run}
+use Rattle.tagged.proofs.RunLaws.{Known, until_run, list_in, run_listed}
+use Rattle.tagged.proofs.ListBytes.{Run, many_run}
 use Rattle.verilog.proofs.FrontLaws.{Returns}
 
 module _ {A : Type 0} (wanted : Sort → Bool) (body : Body) (read : Sort → List ℕ → A) (bytes : A → List ℕ) (known : Known wanted)
     (returns : Returns wanted body read bytes) where
-  run-returns : {base m : ℕ} {l : List ℕ} → AllBytes l → Run wanted body base l m → (take m l ≡ all_bytes_of bytes (list_in wanted body read bytes l)) × (m ≤ length l)
-  run-returns {base} {m} {l} h run =
-      let r = run-listed wanted body read bytes known (λ at s p all is fine. (returns at s p all fine).written) h run in
+  run_returns : {base m : ℕ} {l : List ℕ} → AllBytes l → Run wanted body base l m → (take m l ≡ all_bytes_of bytes (list_in wanted body read bytes l)) × (m ≤ length l)
+  run_returns {base} {m} {l} h run =
+      let r = run_listed wanted body read bytes known (λ at s p all is fine. (returns at s p all fine).written) h run in
       (r.written, r.within)
 
   -- fields while they are wanted
-  pub many-returns : (base owner : ℕ) (l : List ℕ) (m : ℕ) → AllBytes l → many wanted (field_by body) base owner l ≡ Step.Past m →
+  pub many_returns : (base owner : ℕ) (l : List ℕ) (m : ℕ) → AllBytes l → many wanted (field_by body) base owner l ≡ Step.Past m →
       (take m l ≡ all_bytes_of bytes (list_in wanted body read bytes l)) × (m ≤ length l)
-  many-returns base owner l m h e = run-returns h (many-run wanted body (length l) base owner l m (omega arith) e)
+  many_returns base owner l m h e = run_returns h (many_run wanted body (length l) base owner l m (omega arith) e)
 
   -- fields until the end
-  pub until-returns : (base owner : ℕ) (l : List ℕ) → AllBytes l → until_end (field_by body) base owner l ≡ Judged.Fine → all_bytes_of bytes (list_in wanted body read bytes l) ≡ l
-  until-returns base owner l h e =
-      let u = until-run wanted body (λ b s p all fine. (returns b s p all fine).is) base owner l h e in
-      sym (run-returns h u.1).0 ∙ take_all u.0 l u.2
+  pub until_returns : (base owner : ℕ) (l : List ℕ) → AllBytes l → until_end (field_by body) base owner l ≡ Judged.Fine → all_bytes_of bytes (list_in wanted body read bytes l) ≡ l
+  until_returns base owner l h e =
+      let u = until_run wanted body (λ b s p all fine. (returns b s p all fine).is) base owner l h e in
+      sym (run_returns h u.1).0 ∙ take_all u.0 l u.2

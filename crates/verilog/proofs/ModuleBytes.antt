@@ -20,31 +20,31 @@ use Rattle.tagged.specs.declared.fields.Step.{Step}
 use Rattle.tagged.specs.declared.answers.Answer.{Answer}
 use Rattle.tagged.proofs.ByteLaws.{bytes_drop}
 use Rattle.tagged.proofs.SortLaws.{tag_back}
-use Rattle.tagged.proofs.FieldLaws.{Whole, field-passed}
-use Rattle.tagged.proofs.ListBytes.{whole-bytes, field-whole, field-length, placed-unplaced, Stops, Stands, Each, none, more}
-use Rattle.tagged.proofs.DeclarationBytes.{after-declared, declarations-anywhere, declarations-read, Writable, writable-stands, declarations-pass, declarations-placed}
+use Rattle.tagged.proofs.FieldLaws.{Whole, field_passed}
+use Rattle.tagged.proofs.ListBytes.{whole_bytes, field_whole, field_length, placed_unplaced, Stops, Stands, Each, none, more}
+use Rattle.tagged.proofs.DeclarationBytes.{after_declared_lem, declarations_anywhere, declarations_read, Writable, writable_stands, declarations_pass, declarations_placed}
 use Rattle.verilog.specs.Tree.{Block, Module}
 use Rattle.verilog.specs.Form.{block_payload, process_bytes, module_payload, module_bytes, statement_body, process_body, module_body, module_form}
 use Rattle.verilog.specs.Reading.{block_in, tree_in, module_in}
 use Rattle.verilog.specs.Fits.{longest_field, FitsBlock, FitsDeclaration, All, statements_depth, processes_depth, module_depth, FitsModule}
-use Rattle.tagged.proofs.JudgeLaws.{then-tells, then-written}
-use Rattle.verilog.proofs.FrontLaws.{Returns, stands-passed}
-use Rattle.tagged.proofs.RunLaws.{stops-none, stops-field, list_in, until-stands, until-back}
-use Rattle.verilog.proofs.FrontLists.{until-returns}
-use Rattle.tagged.proofs.FileLaws.{file-fits}
-use Rattle.tagged.proofs.SortLaws.{is-itself}
-use Rattle.tagged.proofs.JudgeLaws.{sort-fine}
-use Rattle.verilog.proofs.SortChoices.{process-known}
-use Rattle.verilog.proofs.ExpressionBytes.{payload-short}
+use Rattle.tagged.proofs.JudgeLaws.{then_tells, then_written}
+use Rattle.verilog.proofs.FrontLaws.{Returns, stands_passed}
+use Rattle.tagged.proofs.RunLaws.{stops_none, stops_field, list_in, until_stands, until_back}
+use Rattle.verilog.proofs.FrontLists.{until_returns}
+use Rattle.tagged.proofs.FileLaws.{file_fits}
+use Rattle.tagged.proofs.SortLaws.{is_itself}
+use Rattle.tagged.proofs.JudgeLaws.{sort_fine}
+use Rattle.verilog.proofs.SortChoices.{process_known}
+use Rattle.verilog.proofs.ExpressionBytes.{payload_short}
 use Rattle.verilog.proofs.StatementBytes.{block_written}
-use Rattle.verilog.proofs.StatementStands.{block-passed, block_read}
+use Rattle.verilog.proofs.StatementStands.{block_passed, block_read}
 
 -- from bytes
 
-pub process-returns : (d : ℕ) → Returns (is_sort Sort.Process) (process_body (suc d)) (λ s l. block_in (suc d) l) process_bytes
+pub process_returns : (d : ℕ) → Returns (is_sort Sort.Process) (process_body (suc d)) (λ s l. block_in (suc d) l) process_bytes
 unfolding process_bytes
-process-returns d base s l h fine =
-    let c = sort-fine Sort.Process s (until_end (field_by (statement_body d)) (base + 3) base l) base fine in
+process_returns d base s l h fine =
+    let c = sort_fine Sort.Process s (until_end (field_by (statement_body d)) (base + 3) base l) base fine in
     record { is = c.0; written = ap₂ field_bytes (eqb-true _ _ c.0) (block_written d (base + 3) base l h c.1) }
 
 -- an outer payload without a fault: where its declarations stand and end, and what the processes after them are
@@ -54,16 +54,16 @@ pub record PayloadRead (base : ℕ) (l : List ℕ) : Type 0 where
   pub processes : after_declarations l ≡ all_bytes_of process_bytes (tree_in l).processes
   pub written : module_payload (tree_in l) ≡ l
 
-payload-returns : (base owner : ℕ) (l : List ℕ) → AllBytes l → then_by declarations_step (until_end (field_by (process_body 31))) base owner l ≡ Judged.Fine →
+payload_returns : (base owner : ℕ) (l : List ℕ) → AllBytes l → then_by declarations_step (until_end (field_by (process_body 31))) base owner l ≡ Judged.Fine →
     PayloadRead base l
 unfolding module_payload tree_in
-payload-returns base owner l h fine =
-    let t = then-tells declarations_step (until_end (field_by (process_body 31))) base owner l fine in
+payload_returns base owner l h fine =
+    let t = then_tells declarations_step (until_end (field_by (process_body 31))) base owner l fine in
     let m = t.size in
-    let declared = declarations-read base owner l m h t.passed in
-    let passed : passed_bytes (declarations_step 0 0 l) ≡ m = ap passed_bytes (declarations-anywhere base owner l m t.passed) in
-    let after : after_declarations l ≡ drop m l = after-declared base owner l m t.passed in
-    let returned = until-returns (is_sort Sort.Process) (process_body 31) (λ s p. block_in 31 p) process_bytes process-known (process-returns 30) (base + m) owner
+    let declared = declarations_read base owner l m h t.passed in
+    let passed : passed_bytes (declarations_step 0 0 l) ≡ m = ap passed_bytes (declarations_anywhere base owner l m t.passed) in
+    let after : after_declarations l ≡ drop m l = after_declared_lem base owner l m t.passed in
+    let returned = until_returns (is_sort Sort.Process) (process_body 31) (λ s p. block_in 31 p) process_bytes process_known (process_returns 30) (base + m) owner
     (drop m l) (bytes_drop m l h) t.rest in
     let processes : all_bytes_of process_bytes (list_in (is_sort Sort.Process) (process_body 31) (λ s p. block_in 31 p) process_bytes (after_declarations l)) ≡ drop m l =
     ap (λ (x : List ℕ). all_bytes_of process_bytes (list_in (is_sort Sort.Process) (process_body 31) (λ s p. block_in 31 p) process_bytes x)) after ∙ returned in
@@ -75,9 +75,9 @@ payload-returns base owner l h fine =
     }
 
 -- a tag whose sort is a module's
-module-tag : (file : List ℕ) {s : Sort} {n : ℕ} → Whole file s n → is_sort Sort.Module s ≡ true → get_or file 0 0 ≡ tag_of Sort.Module
+module_tag : (file : List ℕ) {s : Sort} {n : ℕ} → Whole file s n → is_sort Sort.Module s ≡ true → get_or file 0 0 ≡ tag_of Sort.Module
 unfolding tag_of
-module-tag file {s} w is =
+module_tag file {s} w is =
     let tag : tag_of Sort.Module ≡ tag_of (sort_of (get_or file 0 0)) = eqb-true _ _ is ∙ ap tag_of w.sort in
     sym (tag ∙ tag_back (get_or file 0 0) (λ z. omega (arith, tag)))
 
@@ -86,75 +86,75 @@ pub record FormOpened (file : List ℕ) : Type 0 where
   pub tagged : file ≡ field_bytes (tag_of Sort.Module) (drop 3 file)
   pub fine : then_by declarations_step (until_end (field_by (process_body 31))) 3 0 (drop 3 file) ≡ Judged.Fine
 
-pub form-opened : (file : List ℕ) → AllBytes file → file_answer longest_module file ≡ Answer.Accepted → (m : ℕ) → module_form file ≡ Step.Past m → FormOpened file
+pub form_opened : (file : List ℕ) → AllBytes file → file_answer longest_module file ≡ Answer.Accepted → (m : ℕ) → module_form file ≡ Step.Past m → FormOpened file
 unfolding module_form
-form-opened file h accepted m e =
-    let p = field-passed (module_body deepest) 0 0 file m e in
+form_opened file h accepted m e =
+    let p = field_passed (module_body deepest) 0 0 file m e in
     let n = p.size in
-    let outer : n + 3 ≡ length file = ap (λ (k : ℕ). k + 3) p.whole.size ∙ (file-fits longest_module file accepted).outer in
+    let outer : n + 3 ≡ length file = ap (λ (k : ℕ). k + 3) p.whole.size ∙ (file_fits longest_module file accepted).outer in
     let all : take n (drop 3 file) ≡ drop 3 file = take_all n (drop 3 file) (omega (arith, length-drop 3 file)) in
-    let c = sort-fine Sort.Module p.sort (then_by declarations_step (until_end (field_by (process_body 31))) 3 0 (take n (drop 3 file))) 0 p.fine in
+    let c = sort_fine Sort.Module p.sort (then_by declarations_step (until_end (field_by (process_body 31))) 3 0 (take n (drop 3 file))) 0 p.fine in
     record {
-      tagged = sym (take_all (n + 3) file (omega arith)) ∙ whole-bytes file h p.whole ∙ ap₂ field_bytes (module-tag file p.whole c.0) all;
+      tagged = sym (take_all (n + 3) file (omega arith)) ∙ whole_bytes file h p.whole ∙ ap₂ field_bytes (module_tag file p.whole c.0) all;
       fine = rw all at c.1;
     }
 
 -- the payload of a file without a fault
-pub form-read : (file : List ℕ) → AllBytes file → file_answer longest_module file ≡ Answer.Accepted → (m : ℕ) → module_form file ≡ Step.Past m →
+pub form_read : (file : List ℕ) → AllBytes file → file_answer longest_module file ≡ Answer.Accepted → (m : ℕ) → module_form file ≡ Step.Past m →
     PayloadRead 3 (drop 3 file)
-form-read file h accepted m e = payload-returns 3 0 (drop 3 file) (bytes_drop 3 file h) (form-opened file h accepted m e).fine
+form_read file h accepted m e = payload_returns 3 0 (drop 3 file) (bytes_drop 3 file h) (form_opened file h accepted m e).fine
 
 -- no fault means that the tree's encoding is the file
-pub form-written : (file : List ℕ) → AllBytes file → file_answer longest_module file ≡ Answer.Accepted → (m : ℕ) → module_form file ≡ Step.Past m →
+pub form_written : (file : List ℕ) → AllBytes file → file_answer longest_module file ≡ Answer.Accepted → (m : ℕ) → module_form file ≡ Step.Past m →
     file ≡ module_bytes (module_in file)
 unfolding module_bytes
-form-written file h accepted m e =
-    let o = form-opened file h accepted m e in
-    o.tagged ∙ ap (field_bytes (tag_of Sort.Module)) (sym (form-read file h accepted m e).written)
+form_written file h accepted m e =
+    let o = form_opened file h accepted m e in
+    o.tagged ∙ ap (field_bytes (tag_of Sort.Module)) (sym (form_read file h accepted m e).written)
 
 -- to bytes
 
-declarations-each : (ds : List Declaration) → All FitsDeclaration ds → length (all_bytes_of declaration_bytes ds) ≤ longest_field →
+declarations_each : (ds : List Declaration) → All FitsDeclaration ds → length (all_bytes_of declaration_bytes ds) ≤ longest_field →
     Each is_declaration declaration_body declaration_read declaration_bytes ds
 unfolding All all_bytes_of FitsDeclaration Writable declaration_bytes
-declarations-each [] fits long = none
-declarations-each (d ∷ ds) fits long =
+declarations_each [] fits long = none
+declarations_each (d ∷ ds) fits long =
     let both = length-append (declaration_bytes d) (all_bytes_of declaration_bytes ds) in
-    let short = payload-short (tag_of (Sort.Declaration (sort_of_declaration d))) (declaration_payload d) (omega arith) in
-    more (writable-stands d (fits.0.1, short)) (declarations-each ds fits.1 (omega arith))
+    let short = payload_short (tag_of (Sort.Declaration (sort_of_declaration d))) (declaration_payload d) (omega arith) in
+    more (writable_stands d (fits.0.1, short)) (declarations_each ds fits.1 (omega arith))
 
-process-stands : (d : ℕ) (b : Block) → FitsBlock b → statements_depth b ≤ d → length (process_bytes b) ≤ longest_field →
+process_stands : (d : ℕ) (b : Block) → FitsBlock b → statements_depth b ≤ d → length (process_bytes b) ≤ longest_field →
     Stands (is_sort Sort.Process) (process_body (suc d)) (λ s l. block_in (suc d) l) process_bytes b
 unfolding process_bytes
-process-stands d b fits deep long =
-    let short = payload-short (tag_of Sort.Process) (block_payload b) long in
+process_stands d b fits deep long =
+    let short = payload_short (tag_of Sort.Process) (block_payload b) long in
     record {
       sort = Sort.Process;
       payload = block_payload b;
       field = refl;
       short = short;
-      is = is-itself Sort.Process;
-      fine = λ base. rw (is-itself Sort.Process) (block-passed d b fits deep (omega arith) (base + 3) base);
+      is = is_itself Sort.Process;
+      fine = λ base. rw (is_itself Sort.Process) (block_passed d b fits deep (omega arith) (base + 3) base);
       back = block_read d b fits deep (omega arith);
     }
 
-processes-each : (d : ℕ) (l : List Block) → All FitsBlock l → processes_depth l ≤ suc d → length (all_bytes_of process_bytes l) ≤ longest_field
+processes_each : (d : ℕ) (l : List Block) → All FitsBlock l → processes_depth l ≤ suc d → length (all_bytes_of process_bytes l) ≤ longest_field
     → Each (is_sort Sort.Process) (process_body (suc d)) (λ s p. block_in (suc d) p) process_bytes l
 unfolding All all_bytes_of processes_depth
-processes-each d [] fits deep long = none
-processes-each d (b ∷ l) fits deep long =
+processes_each d [] fits deep long = none
+processes_each d (b ∷ l) fits deep long =
     let both = length-append (process_bytes b) (all_bytes_of process_bytes l) in
-    more (process-stands d b fits.0 (omega arith) (omega arith)) (processes-each d l fits.1 (omega arith) (omega arith))
+    more (process_stands d b fits.0 (omega arith) (omega arith)) (processes_each d l fits.1 (omega arith) (omega arith))
 
 -- a process begins no declaration
-processes-stop : (l : List Block) → Stops is_declaration (all_bytes_of process_bytes l)
+processes_stop : (l : List Block) → Stops is_declaration (all_bytes_of process_bytes l)
 unfolding all_bytes_of process_bytes
-processes-stop [] = stops-none is_declaration
-processes-stop (b ∷ l) = stops-field is_declaration Sort.Process (block_payload b) (all_bytes_of process_bytes l) refl
+processes_stop [] = stops_none is_declaration
+processes_stop (b ∷ l) = stops_field is_declaration Sort.Process (block_payload b) (all_bytes_of process_bytes l) refl
 
-after-header : (tag : ℕ) (payload : List ℕ) → drop 3 (field_bytes tag payload) ≡ payload
+after_header : (tag : ℕ) (payload : List ℕ) → drop 3 (field_bytes tag payload) ≡ payload
 unfolding field_bytes two_bytes
-after-header tag payload = refl
+after_header tag payload = refl
 
 -- the lengths and depths of a module's parts
 record PartsFit (m : Module) : Type 0 where
@@ -163,78 +163,78 @@ record PartsFit (m : Module) : Type 0 where
   short : length (module_payload m) < 65536
   deep : processes_depth m.processes ≤ 31
 
-parts-fit : (m : Module) → FitsModule m → PartsFit m
+parts_fit : (m : Module) → FitsModule m → PartsFit m
 unfolding module_payload module_bytes module_depth
-parts-fit m fits =
+parts_fit m fits =
     let both = length-append (all_bytes_of declaration_bytes m.declarations) (all_bytes_of process_bytes m.processes) in
-    let whole = field-length (tag_of Sort.Module) (module_payload m) in
+    let whole = field_length (tag_of Sort.Module) (module_payload m) in
     let long = fits.long in
     let deep = fits.deep in
     record { front = omega arith; after = omega arith; short = omega arith; deep = omega arith }
 
 module _ (m : Module) (fits : FitsModule m) where
   declared : Each is_declaration declaration_body declaration_read declaration_bytes m.declarations
-  declared = declarations-each m.declarations fits.declarations (parts-fit m fits).front
+  declared = declarations_each m.declarations fits.declarations (parts_fit m fits).front
 
   processed : Each (is_sort Sort.Process) (process_body 31) (λ s p. block_in 31 p) process_bytes m.processes
-  processed = processes-each 30 m.processes fits.processes (parts-fit m fits).deep (parts-fit m fits).after
+  processed = processes_each 30 m.processes fits.processes (parts_fit m fits).deep (parts_fit m fits).after
 
-  payload-fine : (base owner : ℕ) → then_by declarations_step (until_end (field_by (process_body 31))) base owner (module_payload m) ≡ Judged.Fine
+  payload_fine : (base owner : ℕ) → then_by declarations_step (until_end (field_by (process_body 31))) base owner (module_payload m) ≡ Judged.Fine
   unfolding module_payload
-  payload-fine base owner =
+  payload_fine base owner =
       let front = all_bytes_of declaration_bytes m.declarations in
       let after = all_bytes_of process_bytes m.processes in
-      then-written declarations_step (until_end (field_by (process_body 31))) base owner front after
-      (declarations-pass base owner after declared (processes-stop m.processes))
-      (until-stands (is_sort Sort.Process) (process_body 31) (λ s p. block_in 31 p) process_bytes (base + length front) owner processed)
+      then_written declarations_step (until_end (field_by (process_body 31))) base owner front after
+      (declarations_pass base owner after declared (processes_stop m.processes))
+      (until_stands (is_sort Sort.Process) (process_body 31) (λ s p. block_in 31 p) process_bytes (base + length front) owner processed)
 
-  payload-read : tree_in (module_payload m) ≡ m
+  payload_read : tree_in (module_payload m) ≡ m
   unfolding module_payload tree_in
-  payload-read =
+  payload_read =
       let front = all_bytes_of declaration_bytes m.declarations in
       let after = all_bytes_of process_bytes m.processes in
-      let stops = processes-stop m.processes in
+      let stops = processes_stop m.processes in
       let first : declarations_in (front ++ after) ≡ m.declarations =
-      ap unplaced (declarations-placed 0 0 after declared stops) ∙ placed-unplaced declaration_bytes 0 m.declarations in
+      ap unplaced (declarations_placed 0 0 after declared stops) ∙ placed_unplaced declaration_bytes 0 m.declarations in
       let left : after_declarations (front ++ after) ≡ after =
-      ap (λ (s : Step). drop (passed_bytes s) (front ++ after)) (declarations-pass 0 0 after declared stops) ∙ drop_at front after (length front) refl in
+      ap (λ (s : Step). drop (passed_bytes s) (front ++ after)) (declarations_pass 0 0 after declared stops) ∙ drop_at front after (length front) refl in
       let second : unplaced (read_placed (is_sort Sort.Process) (λ s p. block_in 31 p) 0 (after_declarations (front ++ after))) ≡ m.processes =
       ap (list_in (is_sort Sort.Process) (process_body 31) (λ s p. block_in 31 p) process_bytes) left
-      ∙ until-back (is_sort Sort.Process) (process_body 31) (λ s p. block_in 31 p) process_bytes processed in
+      ∙ until_back (is_sort Sort.Process) (process_body 31) (λ s p. block_in 31 p) process_bytes processed in
       ap₂ (λ (a : List Declaration) (b : List Block). let x : Module = record { declarations = a; processes = b } in x) first second
 
-  module-stands : Stands (is_sort Sort.Module) (module_body deepest) (λ s p. tree_in p) module_bytes m
+  module_stands : Stands (is_sort Sort.Module) (module_body deepest) (λ s p. tree_in p) module_bytes m
   unfolding module_bytes
-  module-stands = record {
+  module_stands = record {
     sort = Sort.Module;
     payload = module_payload m;
     field = refl;
-    short = (parts-fit m fits).short;
-    is = is-itself Sort.Module;
-    fine = λ base. rw (is-itself Sort.Module) (payload-fine (base + 3) base);
-    back = payload-read;
+    short = (parts_fit m fits).short;
+    is = is_itself Sort.Module;
+    fine = λ base. rw (is_itself Sort.Module) (payload_fine (base + 3) base);
+    back = payload_read;
   }
 
   -- the encoding of a tree within the limits has no fault
-  pub written-form : module_form (module_bytes m) ≡ Step.Past (length (module_bytes m))
+  pub written_form : module_form (module_bytes m) ≡ Step.Past (length (module_bytes m))
   unfolding module_form
-  written-form =
-      ap (λ (l : List ℕ). field_by (module_body deepest) 0 0 l) (sym (append-nil (module_bytes m))) ∙ stands-passed module-stands [] 0 0
+  written_form =
+      ap (λ (l : List ℕ). field_by (module_body deepest) 0 0 l) (sym (append-nil (module_bytes m))) ∙ stands_passed module_stands [] 0 0
 
   -- its length is that of a file
-  pub written-accepted : file_answer longest_module (module_bytes m) ≡ Answer.Accepted
+  pub written_accepted : file_answer longest_module (module_bytes m) ≡ Answer.Accepted
   unfolding file_answer outer_answer module_bytes
-  written-accepted =
+  written_accepted =
       let payload = module_payload m in
       let file = field_bytes (tag_of Sort.Module) payload in
       let whole = subst (λ (l : List ℕ). Whole l (sort_of (tag_of Sort.Module)) (length payload)) (append-nil file)
-      (field-whole (tag_of Sort.Module) payload [] (parts-fit m fits).short) in
-      let size : size_of file + 3 ≡ length file = ap (λ (k : ℕ). k + 3) (sym whole.size) ∙ sym (field-length (tag_of Sort.Module) payload) in
-      let low : shortest_file ≤ length file = omega (arith, field-length (tag_of Sort.Module) payload) in
+      (field_whole (tag_of Sort.Module) payload [] (parts_fit m fits).short) in
+      let size : size_of file + 3 ≡ length file = ap (λ (k : ℕ). k + 3) (sym whole.size) ∙ sym (field_length (tag_of Sort.Module) payload) in
+      let low : shortest_file ≤ length file = omega (arith, field_length (tag_of Sort.Module) payload) in
       let high : length file ≤ longest_module = fits.long in
       rw (le-leb _ _ low, le-leb _ _ high, eq-eqb _ _ size)
 
   -- it is read as it was
   pub written_read : module_in (module_bytes m) ≡ m
   unfolding module_bytes
-  written_read = ap tree_in (after-header (tag_of Sort.Module) (module_payload m)) ∙ payload-read
+  written_read = ap tree_in (after_header (tag_of Sort.Module) (module_payload m)) ∙ payload_read

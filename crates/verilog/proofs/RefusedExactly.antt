@@ -15,9 +15,9 @@ use Rattle.tagged.specs.declared.answers.Rule.{Rule}
 use Rattle.tagged.specs.declared.answers.Answer.{Answer}
 use Rattle.tagged.specs.declared.answers.Found.{Found}
 use Rattle.tagged.specs.declared.fields.Step.{Step}
-use Rattle.tagged.proofs.RefusalLaws.{nowhere-passes, passes-nowhere, FirstBreak, at_first, first-at}
-use Rattle.tagged.proofs.RefusalLaws.{Rising, order-rising, accepted-none, none-accepted, none_each, each_none, refused-first, first-refused, first-lower, lower-first, first-broken}
-use Rattle.tagged.proofs.FileLaws.{accepted-parts}
+use Rattle.tagged.proofs.RefusalLaws.{nowhere_passes, passes_nowhere, FirstBreak, at_first, first_at}
+use Rattle.tagged.proofs.RefusalLaws.{Rising, order_rising, accepted_none, none_accepted, none_each, each_none, refused_first, first_refused, first_lower, lower_first, first_broken_lem}
+use Rattle.tagged.proofs.FileLaws.{accepted_parts}
 use Rattle.verilog.specs.Tree.{Module}
 use Rattle.verilog.specs.Nodes.{Node, module_nodes}
 use Rattle.verilog.specs.Rules.{breaks, module_broken}
@@ -25,85 +25,85 @@ use Rattle.verilog.specs.Form.{module_form}
 use Rattle.verilog.specs.Reading.{module_in}
 use Rattle.verilog.specs.Answer.{module_rules, tree_answer, module_answer}
 use Rattle.verilog.specs.Breaks.{Breaks}
-use Rattle.verilog.proofs.RisingPlaces.{earlier-smaller-place}
-use Rattle.verilog.proofs.BreaksLaws.{BrokenAt, breaks-node}
+use Rattle.verilog.proofs.RisingPlaces.{earlier_smaller_place}
+use Rattle.verilog.proofs.BreaksLaws.{BrokenAt, breaks_node}
 
-rules-rise : Rising 3 module_rules
+rules_rise : Rising 3 module_rules
 unfolding number_of
-rules-rise = order-rising 3 module_rules refl
+rules_rise = order_rising 3 module_rules refl
 
 module _ (m : Module) where
   -- the test of rule k, of a field after those before it
   abbrev test : Rule → List Node → Node → Bool
   test k = breaks m.declarations (unplaced (module_nodes 3 m)) k
 
-  passes-unless : (k : Rule) {before : List Node} {p : ℕ} {n : Node} → Stands (module_nodes 3 m) before p n → (Breaks m k p → ⊥) → test k before n ≡ false
-  passes-unless k {before} {p} {n} s unbroken = go (test k before n) refl
+  passes_unless : (k : Rule) {before : List Node} {p : ℕ} {n : Node} → Stands (module_nodes 3 m) before p n → (Breaks m k p → ⊥) → test k before n ≡ false
+  passes_unless k {before} {p} {n} s unbroken = go (test k before n) refl
     where
       go : (t : Bool) → test k before n ≡ t → test k before n ≡ false
-      go true e = absurd (unbroken ((breaks-node m k p).1 (record { before = before; node = n; stands = s; broken = e })))
+      go true e = absurd (unbroken ((breaks_node m k p).1 (record { before = before; node = n; stands = s; broken = e })))
       go false e = e
 
   -- a rule has no place exactly when nothing breaks it, and the place p exactly when what breaks it first stands there
-  nowhere-none : (k : Rule) → module_broken 3 m k ≡ Found.Nowhere → (p : ℕ) → Breaks m k p → ⊥
+  nowhere_none : (k : Rule) → module_broken 3 m k ≡ Found.Nowhere → (p : ℕ) → Breaks m k p → ⊥
   unfolding module_broken
-  nowhere-none k e p b =
-      let f = (breaks-node m k p).0 b in
-      false≢true (sym (nowhere-passes (test k) [] f.stands e) ∙ f.broken)
+  nowhere_none k e p b =
+      let f = (breaks_node m k p).0 b in
+      false≢true (sym (nowhere_passes (test k) [] f.stands e) ∙ f.broken)
 
-  none-nowhere : (k : Rule) → ((p : ℕ) → Breaks m k p → ⊥) → module_broken 3 m k ≡ Found.Nowhere
+  none_nowhere : (k : Rule) → ((p : ℕ) → Breaks m k p → ⊥) → module_broken 3 m k ≡ Found.Nowhere
   unfolding module_broken
-  none-nowhere k h = passes-nowhere (test k) [] (module_nodes 3 m) (λ before p n s. passes-unless k s (h p))
+  none_nowhere k h = passes_nowhere (test k) [] (module_nodes 3 m) (λ before p n s. passes_unless k s (h p))
 
-  at-breaks : (k : Rule) (p : ℕ) → module_broken 3 m k ≡ Found.At p → Breaks m k p × ((q : ℕ) → q < p → Breaks m k q → ⊥)
+  at_breaks : (k : Rule) (p : ℕ) → module_broken 3 m k ≡ Found.At p → Breaks m k p × ((q : ℕ) → q < p → Breaks m k q → ⊥)
   unfolding module_broken
-  at-breaks k p e = ((breaks-node m k p).1 (record { before = f.before; node = f.what; stands = f.stands; broken = f.broken }), sooner)
+  at_breaks k p e = ((breaks_node m k p).1 (record { before = f.before; node = f.what; stands = f.stands; broken = f.broken }), sooner)
     where
       f : FirstBreak (test k) [] (module_nodes 3 m) p
       f = at_first (test k) [] (module_nodes 3 m) p e
 
       sooner : (q : ℕ) → q < p → Breaks m k q → ⊥
       sooner q less b =
-          let g = (breaks-node m k q).0 b in
-          let fewer = (earlier-smaller-place m g.stands f.stands).1 less in
+          let g = (breaks_node m k q).0 b in
+          let fewer = (earlier_smaller_place m g.stands f.stands).1 less in
           false≢true (sym (f.others g.before q g.node g.stands fewer) ∙ g.broken)
 
-  breaks-at : (k : Rule) (p : ℕ) → Breaks m k p → ((q : ℕ) → q < p → Breaks m k q → ⊥) → module_broken 3 m k ≡ Found.At p
+  breaks_at : (k : Rule) (p : ℕ) → Breaks m k p → ((q : ℕ) → q < p → Breaks m k q → ⊥) → module_broken 3 m k ≡ Found.At p
   unfolding module_broken
-  breaks-at k p b sooner =
-      let f = (breaks-node m k p).0 b in
-      first-at (test k) [] f.stands f.broken
-      (λ c q n s fewer. passes-unless k s (sooner q ((earlier-smaller-place m s f.stands).0 fewer)))
+  breaks_at k p b sooner =
+      let f = (breaks_node m k p).0 b in
+      first_at (test k) [] f.stands f.broken
+      (λ c q n s fewer. passes_unless k s (sooner q ((earlier_smaller_place m s f.stands).0 fewer)))
 
   -- only the rules of the list can be broken
-  after-six : {k : Rule} → Memᴰ k (Rule.BothKinds ∷ Rule.TwoProcesses ∷ Rule.ReadElsewhere ∷ []) → Memᴰ k module_rules
-  after-six i = Memᴰ.tail (Memᴰ.tail (Memᴰ.tail (Memᴰ.tail (Memᴰ.tail (Memᴰ.tail i)))))
+  after_six : {k : Rule} → Memᴰ k (Rule.BothKinds ∷ Rule.TwoProcesses ∷ Rule.ReadElsewhere ∷ []) → Memᴰ k module_rules
+  after_six i = Memᴰ.tail (Memᴰ.tail (Memᴰ.tail (Memᴰ.tail (Memᴰ.tail (Memᴰ.tail i)))))
 
-  rule-listed : (k : Rule) {p : ℕ} → BrokenAt m k p → Memᴰ k module_rules
+  rule_listed : (k : Rule) {p : ℕ} → BrokenAt m k p → Memᴰ k module_rules
   unfolding breaks
-  rule-listed Rule.Value f = Memᴰ.head refl
-  rule-listed Rule.Name f = Memᴰ.tail (Memᴰ.head refl)
-  rule-listed Rule.Count f = Memᴰ.tail (Memᴰ.tail (Memᴰ.head refl))
-  rule-listed Rule.Reference f = Memᴰ.tail (Memᴰ.tail (Memᴰ.tail (Memᴰ.head refl)))
-  rule-listed Rule.Widths f = Memᴰ.tail (Memᴰ.tail (Memᴰ.tail (Memᴰ.tail (Memᴰ.head refl))))
-  rule-listed Rule.BitNumber f = Memᴰ.tail (Memᴰ.tail (Memᴰ.tail (Memᴰ.tail (Memᴰ.tail (Memᴰ.head refl)))))
-  rule-listed Rule.BothKinds f = after-six (Memᴰ.head refl)
-  rule-listed Rule.TwoProcesses f = after-six (Memᴰ.tail (Memᴰ.head refl))
-  rule-listed Rule.ReadElsewhere f = after-six (Memᴰ.tail (Memᴰ.tail (Memᴰ.head refl)))
-  rule-listed Rule.FileLength f = absurd (false≢true f.broken)
-  rule-listed Rule.Form f = absurd (false≢true f.broken)
-  rule-listed Rule.Cells f = absurd (false≢true f.broken)
-  rule-listed Rule.Buffer f = absurd (false≢true f.broken)
-  rule-listed Rule.Row f = absurd (false≢true f.broken)
+  rule_listed Rule.Value f = Memᴰ.head refl
+  rule_listed Rule.Name f = Memᴰ.tail (Memᴰ.head refl)
+  rule_listed Rule.Count f = Memᴰ.tail (Memᴰ.tail (Memᴰ.head refl))
+  rule_listed Rule.Reference f = Memᴰ.tail (Memᴰ.tail (Memᴰ.tail (Memᴰ.head refl)))
+  rule_listed Rule.Widths f = Memᴰ.tail (Memᴰ.tail (Memᴰ.tail (Memᴰ.tail (Memᴰ.head refl))))
+  rule_listed Rule.BitNumber f = Memᴰ.tail (Memᴰ.tail (Memᴰ.tail (Memᴰ.tail (Memᴰ.tail (Memᴰ.head refl)))))
+  rule_listed Rule.BothKinds f = after_six (Memᴰ.head refl)
+  rule_listed Rule.TwoProcesses f = after_six (Memᴰ.tail (Memᴰ.head refl))
+  rule_listed Rule.ReadElsewhere f = after_six (Memᴰ.tail (Memᴰ.tail (Memᴰ.head refl)))
+  rule_listed Rule.FileLength f = absurd (false≢true f.broken)
+  rule_listed Rule.Form f = absurd (false≢true f.broken)
+  rule_listed Rule.Cells f = absurd (false≢true f.broken)
+  rule_listed Rule.Buffer f = absurd (false≢true f.broken)
+  rule_listed Rule.Row f = absurd (false≢true f.broken)
 
-  breaks-listed : {k : Rule} {p : ℕ} → Breaks m k p → Memᴰ k module_rules
-  breaks-listed {k} {p} b = rule-listed k ((breaks-node m k p).0 b)
+  breaks_listed : {k : Rule} {p : ℕ} → Breaks m k p → Memᴰ k module_rules
+  breaks_listed {k} {p} b = rule_listed k ((breaks_node m k p).0 b)
 
 -- what a refusal says: the field at p breaks rule k, no field before p breaks it, and no field breaks a rule of a lower number
 pub record RefusedFor (m : Module) (k : Rule) (p : ℕ) : Type 0 where
   pub breaks : Breaks m k p
-  pub first-place : (q : ℕ) → q < p → Breaks m k q → ⊥
-  pub lowest-number : (j : Rule) (q : ℕ) → number_of j < number_of k → Breaks m j q → ⊥
+  pub first_place : (q : ℕ) → q < p → Breaks m k q → ⊥
+  pub lowest_number : (j : Rule) (q : ℕ) → number_of j < number_of k → Breaks m j q → ⊥
 
 -- Demand 2: a module is refused exactly when it breaks a written rule, with the first such number; its place is that of the first field that breaks it
 pub refused : (m : Module) (k : Rule) (p : ℕ) → tree_answer 3 m ≡ Answer.Refused k p ↔ RefusedFor m k p
@@ -112,38 +112,38 @@ refused m k p = (forth, back)
   where
     forth : tree_answer 3 m ≡ Answer.Refused k p → RefusedFor m k p
     forth e =
-        let f = refused-first (module_broken 3 m) module_rules e in
-        let at = at-breaks m k p (first-broken (module_broken 3 m) f) in
+        let f = refused_first (module_broken 3 m) module_rules e in
+        let at = at_breaks m k p (first_broken_lem (module_broken 3 m) f) in
         record {
           breaks = at.0;
-          first-place = at.1;
-          lowest-number = λ j q less b. nowhere-none m j (first-lower (module_broken 3 m) rules-rise f j (breaks-listed m b) less) q b;
+          first_place = at.1;
+          lowest_number = λ j q less b. nowhere_none m j (first_lower (module_broken 3 m) rules_rise f j (breaks_listed m b) less) q b;
         }
 
     back : RefusedFor m k p → tree_answer 3 m ≡ Answer.Refused k p
     back r =
-        first-refused (module_broken 3 m)
-        (lower-first (module_broken 3 m) rules-rise (breaks-listed m r.breaks) (breaks-at m k p r.breaks r.first-place)
-        (λ j i less. none-nowhere m j (λ q b. r.lowest-number j q less b)))
+        first_refused (module_broken 3 m)
+        (lower_first (module_broken 3 m) rules_rise (breaks_listed m r.breaks) (breaks_at m k p r.breaks r.first_place)
+        (λ j i less. none_nowhere m j (λ q b. r.lowest_number j q less b)))
 
 -- Demand 2, the other side: a module is accepted exactly when no field breaks a rule
 pub accepted : (m : Module) → tree_answer 3 m ≡ Answer.Accepted ↔ ((k : Rule) (p : ℕ) → Breaks m k p → ⊥)
 unfolding tree_answer
 accepted m = (
-  λ e k p b. nowhere-none m k (none_each (module_broken 3 m) (accepted-none (module_broken 3 m) module_rules e) k (breaks-listed m b)) p b,
-  λ h. none-accepted (module_broken 3 m) (each_none (module_broken 3 m) module_rules (λ k i. none-nowhere m k (h k))),
+  λ e k p b. nowhere_none m k (none_each (module_broken 3 m) (accepted_none (module_broken 3 m) module_rules e) k (breaks_listed m b)) p b,
+  λ h. none_accepted (module_broken 3 m) (each_none (module_broken 3 m) module_rules (λ k i. none_nowhere m k (h k))),
 )
 
 -- Demand 2 on files: by its length, else by its form, else by the rules of its tree, in this order
 pub data FileRefused (file : List ℕ) : Rule → ℕ → Type 0 where
   by_length : {k : Rule} {p : ℕ} → file_answer longest_module file ≡ Answer.Refused k p → FileRefused file k p
   by_form : {p : ℕ} → file_answer longest_module file ≡ Answer.Accepted → module_form file ≡ Step.Refused p → FileRefused file Rule.Form p
-  by-rule : {k : Rule} {p n : ℕ} → file_answer longest_module file ≡ Answer.Accepted → module_form file ≡ Step.Past n → RefusedFor (module_in file) k p →
+  by_rule : {k : Rule} {p n : ℕ} → file_answer longest_module file ≡ Answer.Accepted → module_form file ≡ Step.Past n → RefusedFor (module_in file) k p →
       FileRefused file k p
 
-pub file-refused : (file : List ℕ) (k : Rule) (p : ℕ) → module_answer file ≡ Answer.Refused k p ↔ FileRefused file k p
+pub file_refused : (file : List ℕ) (k : Rule) (p : ℕ) → module_answer file ≡ Answer.Refused k p ↔ FileRefused file k p
 unfolding module_answer
-file-refused file k p = (λ e. forth (file_answer longest_module file) refl (module_form file) refl e, back)
+file_refused file k p = (λ e. forth (file_answer longest_module file) refl (module_form file) refl e, back)
   where
     forth : (a : Answer) → file_answer longest_module file ≡ a → (s : Step) → module_form file ≡ s →
         after_answer a (after_form s (tree_answer 3 (module_in file))) ≡ Answer.Refused k p → FileRefused file k p
@@ -152,13 +152,13 @@ file-refused file k p = (λ e. forth (file_answer longest_module file) refl (mod
         let same : Rule.Form ≡ k = cc in
         let place : q ≡ p = cc in
         rw (← same) (by_form h (rw place at g))
-    forth Answer.Accepted h (Step.Past n) g e = by-rule h g ((refused (module_in file) k p).0 e)
+    forth Answer.Accepted h (Step.Past n) g e = by_rule h g ((refused (module_in file) k p).0 e)
 
     back : {k : Rule} {p : ℕ} → FileRefused file k p →
         after_answer (file_answer longest_module file) (after_form (module_form file) (tree_answer 3 (module_in file))) ≡ Answer.Refused k p
     back (by_length h) = rw h
     back (by_form h g) = rw (h, g)
-    back (by-rule {k} {p} h g r) = rw (h, g) ((refused (module_in file) k p).1 r)
+    back (by_rule {k} {p} h g r) = rw (h, g) ((refused (module_in file) k p).1 r)
 
 -- what an accepted file is: of a good length and form, and no field breaks a rule
 pub record FileAccepted (file : List ℕ) : Type 0 where
@@ -167,11 +167,11 @@ pub record FileAccepted (file : List ℕ) : Type 0 where
   pub form : module_form file ≡ Step.Past size
   pub unbroken : (k : Rule) (p : ℕ) → Breaks (module_in file) k p → ⊥
 
-pub file-accepted : (file : List ℕ) → module_answer file ≡ Answer.Accepted ↔ FileAccepted file
+pub file_accepted : (file : List ℕ) → module_answer file ≡ Answer.Accepted ↔ FileAccepted file
 unfolding module_answer
-file-accepted file = (forth, λ f. rw (f.long, f.form) ((accepted (module_in file)).1 f.unbroken))
+file_accepted file = (forth, λ f. rw (f.long, f.form) ((accepted (module_in file)).1 f.unbroken))
   where
     forth : module_answer file ≡ Answer.Accepted → FileAccepted file
     forth e =
-        let p = accepted-parts (file_answer longest_module file) (module_form file) (tree_answer 3 (module_in file)) e in
+        let p = accepted_parts (file_answer longest_module file) (module_form file) (tree_answer 3 (module_in file)) e in
         record { size = p.0; long = p.1; form = p.2; unbroken = (accepted (module_in file)).0 p.3 }

@@ -19,16 +19,16 @@ use Rattle.tagged.proofs.ByteLaws.{bytes_drop}
 use Rattle.verilog.specs.Tree.{Expression, constant, Block, end}
 use Rattle.verilog.specs.Form.{expression_bytes, statement_field, statement_bytes, block_payload, items_bytes, block_bytes, expression_body, constant_body, statement_parts, statement_body, block_body, item_body}
 use Rattle.verilog.specs.Reading.{no_expression, front_by, after_front, block_front, expression_in, items_from, after_items, statement_with, no_statement, statement_in, block_in, item_in}
-use Rattle.tagged.proofs.JudgeLaws.{then-tells, fixed-tells, fixed-only}
-use Rattle.verilog.proofs.FrontLaws.{Returned, Returns, Fronts, front-written, next-returns, last-returns}
+use Rattle.tagged.proofs.JudgeLaws.{then_tells, fixed_tells, fixed_only_lem}
+use Rattle.verilog.proofs.FrontLaws.{Returned, Returns, Fronts, front_written, next_returns, last_returns}
 use Rattle.tagged.proofs.RunLaws.{list_in}
-use Rattle.verilog.proofs.FrontLists.{many-returns, until-returns}
-use Rattle.tagged.proofs.AnyPlace.{field-anywhere, many-anywhere}
-use Rattle.tagged.proofs.JudgeLaws.{sort-fine}
-use Rattle.verilog.proofs.SortChoices.{item-known, block-known, expression-known, statement-known, statement-fine, constant-known}
-use Rattle.verilog.proofs.ExpressionBytes.{expression_at, expression-front, expression-returns, expression-last, constant-payload, one-first, two-first}
-use Rattle.verilog.proofs.StatementLists.{from_bytes, item_bytes, items-from-bytes}
-use Rattle.verilog.proofs.StatementPlaces.{level-anywhere}
+use Rattle.verilog.proofs.FrontLists.{many_returns, until_returns}
+use Rattle.tagged.proofs.AnyPlace.{field_anywhere, many_anywhere}
+use Rattle.tagged.proofs.JudgeLaws.{sort_fine}
+use Rattle.verilog.proofs.SortChoices.{item_known, block_known, expression_known, statement_known, statement_fine, constant_known}
+use Rattle.verilog.proofs.ExpressionBytes.{expression_at, expression_front, expression_returns, expression_last, constant_payload, one_first, two_first}
+use Rattle.verilog.proofs.StatementLists.{from_bytes, item_bytes, items_from_bytes}
+use Rattle.verilog.proofs.StatementPlaces.{level_anywhere}
 
 -- readers by sort and payload, which read what stands at the front
 abbrev pub constant_at : Sort → List ℕ → Expression
@@ -38,8 +38,8 @@ abbrev pub block_at : ℕ → Sort → List ℕ → Block
 block_at d s l = cond (is_sort Sort.Block s) (block_in d l) end
 
 -- an item's constant
-pub constant-front : (l : List ℕ) → front_by constant_at no_expression l ≡ constant (front_by (λ s p. get_or p 0 0) 0 l) (front_by (λ s p. four_of (drop 1 p)) 0 l)
-constant-front l = go (open_of 0 0 l)
+pub constant_front : (l : List ℕ) → front_by constant_at no_expression l ≡ constant (front_by (λ s p. get_or p 0 0) 0 l) (front_by (λ s p. four_of (drop 1 p)) 0 l)
+constant_front l = go (open_of 0 0 l)
   where
     go : (o : Opened) →
         on_field o (λ s n. constant_at s (take n (drop 3 l))) no_expression
@@ -47,21 +47,21 @@ constant-front l = go (open_of 0 0 l)
     go (Opened.Field s n) = refl
     go (Opened.Refused x) = refl
 
-pub constant-returns : (d : ℕ) → Returns (is_sort (Sort.Expression ExpressionSort.Constant)) (constant_body d) constant_at expression_bytes
+pub constant_returns : (d : ℕ) → Returns (is_sort (Sort.Expression ExpressionSort.Constant)) (constant_body d) constant_at expression_bytes
 unfolding constant_body expression_bytes
-constant-returns zero base s l h fine = absurd (let z : ◌≡◌ {A = ℕ} 0 1 = cc in omega arith)
-constant-returns (suc d) base s l h fine =
-    let c = sort-fine (Sort.Expression ExpressionSort.Constant) s (fixed_then 5 ended (base + 3) base l) base fine in
+constant_returns zero base s l h fine = absurd (let z : ◌≡◌ {A = ℕ} 0 1 = cc in omega arith)
+constant_returns (suc d) base s l h fine =
+    let c = sort_fine (Sort.Expression ExpressionSort.Constant) s (fixed_then 5 ended (base + 3) base l) base fine in
     record {
       is = c.0;
-      written = ap₂ field_bytes (eqb-true _ _ c.0) (constant-payload l h (fixed-only 5 (base + 3) base l c.1));
+      written = ap₂ field_bytes (eqb-true _ _ c.0) (constant_payload l h (fixed_only_lem 5 (base + 3) base l c.1));
     }
 
 -- what follows the items that were passed
 pub after_items_lem : (d base owner : ℕ) (l : List ℕ) (m : ℕ) → many (is_sort Sort.Item) (field_by (item_body d)) base owner l ≡ Step.Past m → after_items d l ≡ drop m l
 after_items_lem d base owner l m e =
     ap (λ (s : Step). drop (passed_bytes s) l)
-    (many-anywhere (is_sort Sort.Item) (field_by (item_body d)) (field-anywhere (item_body d) (level-anywhere d).item) base owner 0 0 l m e)
+    (many_anywhere (is_sort Sort.Item) (field_by (item_body d)) (field_anywhere (item_body d) (level_anywhere d).item) base owner 0 0 l m e)
 
 -- what is known of a level
 pub record LevelReturns (d : ℕ) : Type 0 where
@@ -70,118 +70,118 @@ pub record LevelReturns (d : ℕ) : Type 0 where
   pub item : Returns (is_sort Sort.Item) (item_body d) (λ s l. item_in d s l) item_bytes
 
 -- the statements of a payload
-statements-return : (d : ℕ) → LevelReturns d → (base owner : ℕ) (l : List ℕ) → AllBytes l → until_end (field_by (statement_body d)) base owner l ≡ Judged.Fine →
+statements_return : (d : ℕ) → LevelReturns d → (base owner : ℕ) (l : List ℕ) → AllBytes l → until_end (field_by (statement_body d)) base owner l ≡ Judged.Fine →
     block_payload (block_in (suc d) l) ≡ l
 unfolding block_in
-statements-return d level base owner l h fine =
+statements_return d level base owner l h fine =
     from_bytes (list_in is_statement (statement_body d) (λ s p. statement_in d s p) statement_bytes l)
-    ∙ until-returns is_statement (statement_body d) (λ s p. statement_in d s p) statement_bytes statement-known level.statement base owner l h fine
+    ∙ until_returns is_statement (statement_body d) (λ s p. statement_in d s p) statement_bytes statement_known level.statement base owner l h fine
 
 module _ (d : ℕ) (level : LevelReturns d) where
   -- the block at the front, and nothing after it
   block_last : (base owner : ℕ) (l : List ℕ) → AllBytes l → then_by (field_by (block_body d)) ended base owner l ≡ Judged.Fine →
       block_bytes (block_front (λ p. block_in d p) l) ≡ l
-  block_last base owner l h fine = last-returns (is_sort Sort.Block) (block_body d) (block_at d) block_bytes block-known level.block end base owner l h fine
+  block_last base owner l h fine = last_returns (is_sort Sort.Block) (block_body d) (block_at d) block_bytes block_known level.block end base owner l h fine
 
   -- the items at the front, and then the default block
-  items-return : (base owner : ℕ) (l : List ℕ) → AllBytes l →
+  items_return : (base owner : ℕ) (l : List ℕ) → AllBytes l →
       then_by (many (is_sort Sort.Item) (field_by (item_body d))) (then_by (field_by (block_body d)) ended) base owner l ≡ Judged.Fine →
       items_bytes (items_from (list_in (is_sort Sort.Item) (item_body d) (λ s p. item_in d s p) item_bytes l) (block_front (λ p. block_in d p) (after_items d l))) ≡ l
-  items-return base owner l h fine =
-      let t = then-tells (many (is_sort Sort.Item) (field_by (item_body d))) (then_by (field_by (block_body d)) ended) base owner l fine in
+  items_return base owner l h fine =
+      let t = then_tells (many (is_sort Sort.Item) (field_by (item_body d))) (then_by (field_by (block_body d)) ended) base owner l fine in
       let m = t.size in
       let after : after_items d l ≡ drop m l = after_items_lem d base owner l m t.passed in
-      let items = many-returns (is_sort Sort.Item) (item_body d) (λ s p. item_in d s p) item_bytes item-known level.item base owner l m h t.passed in
+      let items = many_returns (is_sort Sort.Item) (item_body d) (λ s p. item_in d s p) item_bytes item_known level.item base owner l m h t.passed in
       let block : block_bytes (block_front (λ p. block_in d p) (after_items d l)) ≡ drop m l =
       ap (λ (x : List ℕ). block_bytes (block_front (λ p. block_in d p) x)) after ∙ block_last (base + m) owner (drop m l) (bytes_drop m l h) t.rest in
-      items-from-bytes (list_in (is_sort Sort.Item) (item_body d) (λ s p. item_in d s p) item_bytes l) (block_front (λ p. block_in d p) (after_items d l))
+      items_from_bytes (list_in (is_sort Sort.Item) (item_body d) (λ s p. item_in d s p) item_bytes l) (block_front (λ p. block_in d p) (after_items d l))
       ∙ ap₂ (λ (a b : List ℕ). a ++ b) (sym items.0) block ∙ take-append-drop m l
 
   -- the expression at the front, and then more
-  expression-next : (next : Judge) (base owner : ℕ) (l : List ℕ) (h : AllBytes l) → then_by (field_by (expression_body d)) next base owner l ≡ Judged.Fine →
-      Fronts is_expression (expression_body d) (expression_at d) expression_bytes expression-known (expression-returns d) no_expression base owner l h next
-  expression-next next base owner l h fine =
-      next-returns is_expression (expression_body d) (expression_at d) expression_bytes expression-known (expression-returns d) no_expression base owner l h next fine
+  expression_next : (next : Judge) (base owner : ℕ) (l : List ℕ) (h : AllBytes l) → then_by (field_by (expression_body d)) next base owner l ≡ Judged.Fine →
+      Fronts is_expression (expression_body d) (expression_at d) expression_bytes expression_known (expression_returns d) no_expression base owner l h next
+  expression_next next base owner l h fine =
+      next_returns is_expression (expression_body d) (expression_at d) expression_bytes expression_known (expression_returns d) no_expression base owner l h next fine
 
   -- what a statement holds
-  statement-parts : (t : StatementSort) (base owner : ℕ) (l : List ℕ) → AllBytes l →
+  statement_parts_lem : (t : StatementSort) (base owner : ℕ) (l : List ℕ) → AllBytes l →
       statement_parts (field_by (expression_body d)) (field_by (block_body d)) (field_by (item_body d)) t base owner l ≡ Judged.Fine →
       statement_bytes (statement_with d (expression_in d) (λ p. block_in d p) (λ u p. item_in d u p) t l) ≡ field_bytes (tag_of (Sort.Statement t)) l
   unfolding statement_bytes block_bytes
-  statement-parts (StatementSort.Assign kind) base owner l h fine =
-      let f = fixed-tells 1 (then_by (field_by (expression_body d)) ended) base owner l fine in
-      let value = expression-last d (expression-returns d) (base + 1) owner (drop 1 l) (bytes_drop 1 l h) f.1 in
-      ap (statement_field (StatementSort.Assign kind)) (ap (λ (p : List ℕ). get_or l 0 0 ∷ p) value ∙ one-first l f.0)
-  statement-parts (StatementSort.AssignBit kind) base owner l h fine =
-      let f = fixed-tells 2 (then_by (field_by (expression_body d)) ended) base owner l fine in
-      let value = expression-last d (expression-returns d) (base + 2) owner (drop 2 l) (bytes_drop 2 l h) f.1 in
-      ap (statement_field (StatementSort.AssignBit kind)) (ap (λ (p : List ℕ). get_or l 0 0 ∷ get_or l 1 0 ∷ p) value ∙ two-first l f.0)
-  statement-parts StatementSort.If base owner l h fine =
-      let c = expression-next (then_by (field_by (block_body d)) (then_by (field_by (block_body d)) ended)) base owner l h fine in
-      let a = next-returns (is_sort Sort.Block) (block_body d) (block_at d) block_bytes block-known level.block end c.place owner (after_front l) c.left
+  statement_parts_lem (StatementSort.Assign kind) base owner l h fine =
+      let f = fixed_tells 1 (then_by (field_by (expression_body d)) ended) base owner l fine in
+      let value = expression_last d (expression_returns d) (base + 1) owner (drop 1 l) (bytes_drop 1 l h) f.1 in
+      ap (statement_field (StatementSort.Assign kind)) (ap (λ (p : List ℕ). get_or l 0 0 ∷ p) value ∙ one_first l f.0)
+  statement_parts_lem (StatementSort.AssignBit kind) base owner l h fine =
+      let f = fixed_tells 2 (then_by (field_by (expression_body d)) ended) base owner l fine in
+      let value = expression_last d (expression_returns d) (base + 2) owner (drop 2 l) (bytes_drop 2 l h) f.1 in
+      ap (statement_field (StatementSort.AssignBit kind)) (ap (λ (p : List ℕ). get_or l 0 0 ∷ get_or l 1 0 ∷ p) value ∙ two_first l f.0)
+  statement_parts_lem StatementSort.If base owner l h fine =
+      let c = expression_next (then_by (field_by (block_body d)) (then_by (field_by (block_body d)) ended)) base owner l h fine in
+      let a = next_returns (is_sort Sort.Block) (block_body d) (block_at d) block_bytes block_known level.block end c.place owner (after_front l) c.left
       (then_by (field_by (block_body d)) ended) c.rest in
       let b = block_last a.place owner (after_front (after_front l)) a.left a.rest in
       let first = block_bytes (block_front (λ p. block_in d p) (after_front l)) in
       let both : first ++ block_bytes (block_front (λ p. block_in d p) (after_front (after_front l))) ≡ after_front l = ap (λ (x : List ℕ). first ++ x) b ∙ a.written in
       ap (statement_field StatementSort.If)
       (append_assoc (expression_bytes (expression_in d l)) first (block_bytes (block_front (λ p. block_in d p) (after_front (after_front l))))
-      ∙ ap₂ (λ (x y : List ℕ). x ++ y) (ap expression_bytes (sym (expression-front d l))) both ∙ c.written)
-  statement-parts StatementSort.Case base owner l h fine =
-      let c = expression-next (then_by (many (is_sort Sort.Item) (field_by (item_body d))) (then_by (field_by (block_body d)) ended)) base owner l h fine in
-      let items = items-return c.place owner (after_front l) c.left c.rest in
-      ap (statement_field StatementSort.Case) (ap₂ (λ (x y : List ℕ). x ++ y) (ap expression_bytes (sym (expression-front d l))) items ∙ c.written)
+      ∙ ap₂ (λ (x y : List ℕ). x ++ y) (ap expression_bytes (sym (expression_front d l))) both ∙ c.written)
+  statement_parts_lem StatementSort.Case base owner l h fine =
+      let c = expression_next (then_by (many (is_sort Sort.Item) (field_by (item_body d))) (then_by (field_by (block_body d)) ended)) base owner l h fine in
+      let items = items_return c.place owner (after_front l) c.left c.rest in
+      ap (statement_field StatementSort.Case) (ap₂ (λ (x y : List ℕ). x ++ y) (ap expression_bytes (sym (expression_front d l))) items ∙ c.written)
 
-  statement-next : Returns is_statement (statement_body (suc d)) (λ s l. statement_in (suc d) s l) statement_bytes
+  statement_next : Returns is_statement (statement_body (suc d)) (λ s l. statement_in (suc d) s l) statement_bytes
   unfolding statement_body statement_in
-  statement-next base s l h fine =
-      let c = statement-fine s (λ t. statement_parts (field_by (expression_body d)) (field_by (block_body d)) (field_by (item_body d)) t (base + 3) base l) base fine in
+  statement_next base s l h fine =
+      let c = statement_fine s (λ t. statement_parts (field_by (expression_body d)) (field_by (block_body d)) (field_by (item_body d)) t (base + 3) base l) base fine in
       subst (λ (s : Sort). Returned is_statement (statement_body (suc d)) (λ s l. statement_in (suc d) s l) statement_bytes s l) (sym c.1)
-      (record { is = refl; written = statement-parts c.0 (base + 3) base l h c.2 })
+      (record { is = refl; written = statement_parts_lem c.0 (base + 3) base l h c.2 })
 
-  block-next : Returns (is_sort Sort.Block) (block_body (suc d)) (block_at (suc d)) block_bytes
+  block_next : Returns (is_sort Sort.Block) (block_body (suc d)) (block_at (suc d)) block_bytes
   unfolding block_body block_bytes
-  block-next base s l h fine =
-      let c = sort-fine Sort.Block s (until_end (field_by (statement_body d)) (base + 3) base l) base fine in
+  block_next base s l h fine =
+      let c = sort_fine Sort.Block s (until_end (field_by (statement_body d)) (base + 3) base l) base fine in
       let read : block_at (suc d) s l ≡ block_in (suc d) l = rw c.0 in
       record {
         is = c.0;
-        written = ap₂ field_bytes (eqb-true _ _ c.0) (ap block_payload read ∙ statements-return d level (base + 3) base l h c.1);
+        written = ap₂ field_bytes (eqb-true _ _ c.0) (ap block_payload read ∙ statements_return d level (base + 3) base l h c.1);
       }
 
-  item-next : Returns (is_sort Sort.Item) (item_body (suc d)) (λ s l. item_in (suc d) s l) item_bytes
+  item_next : Returns (is_sort Sort.Item) (item_body (suc d)) (λ s l. item_in (suc d) s l) item_bytes
   unfolding item_body item_in item_bytes expression_bytes
-  item-next base s l h fine =
-      let c = sort-fine Sort.Item s (then_by (field_by (constant_body d)) (then_by (field_by (block_body d)) ended) (base + 3) base l) base fine in
-      let n = next-returns (is_sort (Sort.Expression ExpressionSort.Constant)) (constant_body d) constant_at expression_bytes constant-known
-      (constant-returns d) no_expression (base + 3) base l h (then_by (field_by (block_body d)) ended) c.1 in
+  item_next base s l h fine =
+      let c = sort_fine Sort.Item s (then_by (field_by (constant_body d)) (then_by (field_by (block_body d)) ended) (base + 3) base l) base fine in
+      let n = next_returns (is_sort (Sort.Expression ExpressionSort.Constant)) (constant_body d) constant_at expression_bytes constant_known
+      (constant_returns d) no_expression (base + 3) base l h (then_by (field_by (block_body d)) ended) c.1 in
       let block = block_last n.place base (after_front l) n.left n.rest in
       record {
         is = c.0;
-        written = ap₂ field_bytes (eqb-true _ _ c.0) (ap₂ (λ (x y : List ℕ). x ++ y) (ap expression_bytes (sym (constant-front l))) block ∙ n.written);
+        written = ap₂ field_bytes (eqb-true _ _ c.0) (ap₂ (λ (x y : List ℕ). x ++ y) (ap expression_bytes (sym (constant_front l))) block ∙ n.written);
       }
 
-pub level-returns : (d : ℕ) → LevelReturns d
+pub level_returns : (d : ℕ) → LevelReturns d
 unfolding statement_body block_body item_body
-level-returns zero = record {
+level_returns zero = record {
   statement = λ base s l h fine. absurd (let z : ◌≡◌ {A = ℕ} 0 1 = cc in omega arith);
   block = λ base s l h fine. absurd (let z : ◌≡◌ {A = ℕ} 0 1 = cc in omega arith);
   item = λ base s l h fine. absurd (let z : ◌≡◌ {A = ℕ} 0 1 = cc in omega arith);
 }
-level-returns (suc d) =
-    let inner = level-returns d in
-    record { statement = statement-next d inner; block = block-next d inner; item = item-next d inner }
+level_returns (suc d) =
+    let inner = level_returns d in
+    record { statement = statement_next d inner; block = block_next d inner; item = item_next d inner }
 
 -- a statement at the front, the statements of a payload, and the items at the front with their default block, as they stood
-pub statement-written : (d base owner : ℕ) (l : List ℕ) (m : ℕ) → AllBytes l → field_by (statement_body d) base owner l ≡ Step.Past m →
+pub statement_written : (d base owner : ℕ) (l : List ℕ) (m : ℕ) → AllBytes l → field_by (statement_body d) base owner l ≡ Step.Past m →
     take m l ≡ statement_bytes (front_by (λ s p. statement_in d s p) no_statement l)
-statement-written d base owner l m h e =
-    front-written is_statement (statement_body d) (λ s p. statement_in d s p) statement_bytes statement-known (level-returns d).statement no_statement base owner l h m e
+statement_written d base owner l m h e =
+    front_written is_statement (statement_body d) (λ s p. statement_in d s p) statement_bytes statement_known (level_returns d).statement no_statement base owner l h m e
 
 pub block_written : (d base owner : ℕ) (l : List ℕ) → AllBytes l → until_end (field_by (statement_body d)) base owner l ≡ Judged.Fine →
     block_payload (block_in (suc d) l) ≡ l
-block_written d base owner l h fine = statements-return d (level-returns d) base owner l h fine
+block_written d base owner l h fine = statements_return d (level_returns d) base owner l h fine
 
-pub items-written : (d base owner : ℕ) (l : List ℕ) → AllBytes l →
+pub items_written : (d base owner : ℕ) (l : List ℕ) → AllBytes l →
     then_by (many (is_sort Sort.Item) (field_by (item_body d))) (then_by (field_by (block_body d)) ended) base owner l ≡ Judged.Fine →
     items_bytes (items_from (unplaced (read_placed (is_sort Sort.Item) (λ s p. item_in d s p) 0 l)) (block_front (λ p. block_in d p) (after_items d l))) ≡ l
-items-written d base owner l h fine = items-return d (level-returns d) base owner l h fine
+items_written d base owner l h fine = items_return d (level_returns d) base owner l h fine

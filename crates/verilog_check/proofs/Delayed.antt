@@ -21,12 +21,12 @@ use Rattle.verilog.specs.Cycle.{is_non_blocking, delays, delays_block, delays_it
 use Rattle.verilog.proofs.DeclarationsKept.{declaration_node}
 use Rattle.verilog_check.specs.Tables.{kind_bit, first_code}
 use Rattle.verilog_check.proofs.Firsts.{code_of, first_in}
-use Rattle.verilog_check.proofs.AssignmentCodes.{code-kind, assignment-code}
-use Rattle.verilog_check.proofs.EachField.{each-expression}
-use Rattle.verilog_check.proofs.SomeField.{some-joined, each_none, first-decides}
+use Rattle.verilog_check.proofs.AssignmentCodes.{code_kind, assignment_code}
+use Rattle.verilog_check.proofs.EachField.{each_expression}
+use Rattle.verilog_check.proofs.SomeField.{some_joined, each_none, first_decides}
 use Rattle.verilog_check.proofs.RulesByTables.{after_declared, process_fields}
-use Rattle.verilog_check.proofs.TestsByCode.{of-both-kinds}
-use Rattle.verilog_check.proofs.FirstAssignments.{part-of-first}
+use Rattle.verilog_check.proofs.TestsByCode.{of_both_kinds}
+use Rattle.verilog_check.proofs.FirstAssignments.{part_of_first}
 
 module _ (v : ℕ) where
   -- an assignment to v by non-blocking
@@ -37,66 +37,66 @@ module _ (v : ℕ) where
   among l = some_node delaying (unplaced l)
 
   none_in : (p at : ℕ) (e : Expression) → among (expression_nodes p at e) ≡ false
-  none_in p at e = each_none delaying (each-expression p (λ e. refl) at e)
+  none_in p at e = each_none delaying (each_expression p (λ e. refl) at e)
 
   mutual
     unfolding delays delays_block delays_items statement_nodes block_nodes items_nodes
 
-    statement-delays : (p at : ℕ) (s : Statement) → among (statement_nodes p at s) ≡ delays v s
-    statement-delays p at (assign kind u e) = rw (none_in p (at + 4) e) (or-false (is_non_blocking kind && eqb u v))
-    statement-delays p at (assign_bit kind u k e) = rw (none_in p (at + 5) e) (or-false (is_non_blocking kind && eqb u v))
-    statement-delays p at (if_else c a b) =
+    statement_delays : (p at : ℕ) (s : Statement) → among (statement_nodes p at s) ≡ delays v s
+    statement_delays p at (assign kind u e) = rw (none_in p (at + 4) e) (or-false (is_non_blocking kind && eqb u v))
+    statement_delays p at (assign_bit kind u k e) = rw (none_in p (at + 5) e) (or-false (is_non_blocking kind && eqb u v))
+    statement_delays p at (if_else c a b) =
         let first : ℕ = at + 3 + length (expression_bytes c) in
         let condition : List (Placed Node) = expression_nodes p (at + 3) c in
         let yes : List (Placed Node) = block_nodes p (first + 3) a in
         let no : List (Placed Node) = block_nodes p (past first (block_payload a) + 3) b in
-        some-joined delaying (condition ++ yes) no
-        ∙ ap₂ ◌||◌ (some-joined delaying condition yes ∙ ap₂ ◌||◌ (none_in p (at + 3) c) (block-delays p (first + 3) a)) (block-delays p (past first (block_payload a) + 3) b)
-    statement-delays p at (case e items) =
+        some_joined delaying (condition ++ yes) no
+        ∙ ap₂ ◌||◌ (some_joined delaying condition yes ∙ ap₂ ◌||◌ (none_in p (at + 3) c) (block_delays p (first + 3) a)) (block_delays p (past first (block_payload a) + 3) b)
+    statement_delays p at (case e items) =
         let after : ℕ = at + 3 + length (expression_bytes e) in
-        some-joined delaying (expression_nodes p (at + 3) e) (items_nodes p after e items) ∙ ap₂ ◌||◌ (none_in p (at + 3) e) (items-delay p after e items)
+        some_joined delaying (expression_nodes p (at + 3) e) (items_nodes p after e items) ∙ ap₂ ◌||◌ (none_in p (at + 3) e) (items_delay p after e items)
 
-    block-delays : (p at : ℕ) (b : Block) → among (block_nodes p at b) ≡ delays_block v b
-    block-delays p at end = refl
-    block-delays p at (s then b) =
+    block_delays : (p at : ℕ) (b : Block) → among (block_nodes p at b) ≡ delays_block v b
+    block_delays p at end = refl
+    block_delays p at (s then b) =
         let next : ℕ = at + length (statement_bytes s) in
-        some-joined delaying (statement_nodes p at s) (block_nodes p next b) ∙ ap₂ ◌||◌ (statement-delays p at s) (block-delays p next b)
+        some_joined delaying (statement_nodes p at s) (block_nodes p next b) ∙ ap₂ ◌||◌ (statement_delays p at s) (block_delays p next b)
 
-    items-delay : (p at : ℕ) (e : Expression) (items : Items) → among (items_nodes p at e items) ≡ delays_items v items
-    items-delay p at e (default b) = block-delays p (at + 3) b
-    items-delay p at e (item w n b items) =
+    items_delay : (p at : ℕ) (e : Expression) (items : Items) → among (items_nodes p at e items) ≡ delays_items v items
+    items_delay p at e (default b) = block_delays p (at + 3) b
+    items_delay p at e (item w n b items) =
         let next : ℕ = past (at + 11) (block_payload b) in
-        some-joined delaying (block_nodes p (at + 14) b) (items_nodes p next e items) ∙ ap₂ ◌||◌ (block-delays p (at + 14) b) (items-delay p next e items)
+        some_joined delaying (block_nodes p (at + 14) b) (items_nodes p next e items) ∙ ap₂ ◌||◌ (block_delays p (at + 14) b) (items_delay p next e items)
 
-  processes-delay : (p at : ℕ) (l : List Block) → among (process_nodes p at l) ≡ delays_any l v
+  processes_delay : (p at : ℕ) (l : List Block) → among (process_nodes p at l) ≡ delays_any l v
   unfolding delays_any process_nodes
-  processes-delay p at [] = refl
-  processes-delay p at (b ∷ l) =
+  processes_delay p at [] = refl
+  processes_delay p at (b ∷ l) =
       let next : ℕ = at + length (process_bytes b) in
-      some-joined delaying (block_nodes p (at + 3) b) (process_nodes (p + 1) next l) ∙ ap₂ ◌||◌ (block-delays p (at + 3) b) (processes-delay (p + 1) next l)
+      some_joined delaying (block_nodes p (at + 3) b) (process_nodes (p + 1) next l) ∙ ap₂ ◌||◌ (block_delays p (at + 3) b) (processes_delay (p + 1) next l)
 
   -- the same by codes
-  delaying-code : (n : Node) → delaying n ≡ eqb (code_of v n % 2) 1
-  delaying-code n = assignment-code n v (λ code. eqb (code % 2) 1) refl (λ kind u. is_non_blocking kind && eqb u v) here another
+  delaying_code : (n : Node) → delaying n ≡ eqb (code_of v n % 2) 1
+  delaying_code n = assignment_code n v (λ code. eqb (code % 2) 1) refl (λ kind u. is_non_blocking kind && eqb u v) here another
     where
       bit : (kind : Kind) → (is_non_blocking kind && true) ≡ eqb (kind_bit kind) 1
       bit Kind.Blocking = refl
       bit Kind.NonBlocking = refl
 
       here : (kind : Kind) → (is_non_blocking kind && eqb v v) ≡ eqb (first_code (n.in_process + 1) kind % 2) 1
-      here kind = rw (eq-eqb v v refl, code-kind n.in_process kind) (bit kind)
+      here kind = rw (eq-eqb v v refl, code_kind n.in_process kind) (bit kind)
 
       another : (kind : Kind) (u : ℕ) → eqb u v ≡ false → (is_non_blocking kind && eqb u v) ≡ false
       another Kind.Blocking u e = refl
       another Kind.NonBlocking u e = e
 
 -- a variable is assigned by non-blocking anywhere just where its first assignment in the table is non-blocking
-pub delayed-by-first : (base : ℕ) (m : Module) (firsts : List ℕ) →
+pub delayed_by_first : (base : ℕ) (m : Module) (firsts : List ℕ) →
     ((v : ℕ) → v < most_variables → get_or firsts v 0 ≡ first_in v (unplaced (process_fields base m))) →
     module_broken base m Rule.BothKinds ≡ Found.Nowhere → (v : ℕ) → v < most_variables → delays_any m.processes v ≡ eqb (get_or firsts v 0 % 2) 1
-delayed-by-first base m firsts tabled kinds v few =
+delayed_by_first base m firsts tabled kinds v few =
     let fields : List Node = unplaced (process_fields base m) in
-    sym (processes-delay v 0 (after_declared base m) m.processes) ∙ ap (λ (test : Node → Bool). some_node test fields) (fun_ext (delaying-code v))
-    ∙ first-decides v (λ code. eqb (code % 2) 1) refl fields
-    (λ n i some. ap (λ (k : ℕ). eqb k 1) (part-of-first base m of-both-kinds kinds v n (Memᴰ.append_right (map declaration_node m.declarations) i) some))
+    sym (processes_delay v 0 (after_declared base m) m.processes) ∙ ap (λ (test : Node → Bool). some_node test fields) (fun_ext (delaying_code v))
+    ∙ first_decides v (λ code. eqb (code % 2) 1) refl fields
+    (λ n i some. ap (λ (k : ℕ). eqb k 1) (part_of_first base m of_both_kinds kinds v n (Memᴰ.append_right (map declaration_node m.declarations) i) some))
     ∙ ap (λ (code : ℕ). eqb (code % 2) 1) (sym (tabled v few))

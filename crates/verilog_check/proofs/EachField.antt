@@ -9,7 +9,7 @@ use Rattle.tagged.specs.Fields.{Placed}
 use Rattle.tagged.specs.Stands.{Stands, first, next}
 use Rattle.tagged.specs.Refusals.{first_broken}
 use Rattle.tagged.specs.declared.answers.Found.TheVariants as Found
-use Rattle.tagged.proofs.RefusalLaws.{passes-nowhere}
+use Rattle.tagged.proofs.RefusalLaws.{passes_nowhere}
 use Rattle.verilog.specs.Tree.{Expression, constant, variable, fixed_bit, chosen_bit, one, two, Statement, assign, assign_bit, if_else, case}
 use Rattle.verilog.specs.Tree.{Block, end, ◌then◌, Items, default, item}
 use Rattle.verilog.specs.Form.{expression_bytes, statement_bytes, block_payload, process_bytes}
@@ -29,54 +29,54 @@ module _ {P : Node → Type 0} where
   each_stands (one_more_lem p r) (next s) = each_stands r s
   each_stands {before = before} {place = place} {n = n} no_field x3 = elim x3 [ ]
 
-pub each-fails : (test : List Node → Node → Bool) (before : List Node) {l : List (Placed Node)} → Each (λ n. (earlier : List Node) → test earlier n ≡ false) l →
+pub each_fails : (test : List Node → Node → Bool) (before : List Node) {l : List (Placed Node)} → Each (λ n. (earlier : List Node) → test earlier n ≡ false) l →
     first_broken test before l ≡ Found.Nowhere
-each-fails test before {l} fails = passes-nowhere test before l (λ passed p n s. each_stands fails s (before ++ passed))
+each_fails test before {l} fails = passes_nowhere test before l (λ passed p n s. each_stands fails s (before ++ passed))
 
 -- a field in process number p
 abbrev field_in : ℕ → What → Node
 field_in p w = record { in_process = p; what = w }
 
 module _ {P : Node → Type 0} (p : ℕ) (an-expression : (e : Expression) → P (field_in p (expression e))) where
-  pub each-expression : (at : ℕ) (e : Expression) → Each P (expression_nodes p at e)
+  pub each_expression : (at : ℕ) (e : Expression) → Each P (expression_nodes p at e)
   unfolding expression_nodes
-  each-expression at (constant w v) = one_more_lem (an-expression (constant w v)) no_field
-  each-expression at (variable v) = one_more_lem (an-expression (variable v)) no_field
-  each-expression at (fixed_bit v k) = one_more_lem (an-expression (fixed_bit v k)) no_field
-  each-expression at (chosen_bit v e) = one_more_lem (an-expression (chosen_bit v e)) (each-expression (at + 4) e)
-  each-expression at (one op a) = one_more_lem (an-expression (one op a)) (each-expression (at + 3) a)
-  each-expression at (two op a b) =
-      one_more_lem (an-expression (two op a b)) (each_append (each-expression (at + 3) a) (each-expression (at + 3 + length (expression_bytes a)) b))
+  each_expression at (constant w v) = one_more_lem (an-expression (constant w v)) no_field
+  each_expression at (variable v) = one_more_lem (an-expression (variable v)) no_field
+  each_expression at (fixed_bit v k) = one_more_lem (an-expression (fixed_bit v k)) no_field
+  each_expression at (chosen_bit v e) = one_more_lem (an-expression (chosen_bit v e)) (each_expression (at + 4) e)
+  each_expression at (one op a) = one_more_lem (an-expression (one op a)) (each_expression (at + 3) a)
+  each_expression at (two op a b) =
+      one_more_lem (an-expression (two op a b)) (each_append (each_expression (at + 3) a) (each_expression (at + 3 + length (expression_bytes a)) b))
 
   module _ (a-statement : (s : Statement) → P (field_in p (statement s))) (an_item : (e : Expression) (w : ℕ) → P (field_in p (item_of e w))) where
     mutual
       unfolding statement_nodes block_nodes items_nodes
 
-      each-statement : (at : ℕ) (s : Statement) → Each P (statement_nodes p at s)
-      each-statement at (assign kind v e) = one_more_lem (a-statement (assign kind v e)) (each-expression (at + 4) e)
-      each-statement at (assign_bit kind v k e) = one_more_lem (a-statement (assign_bit kind v k e)) (each-expression (at + 5) e)
-      each-statement at (if_else c a b) =
+      each_statement : (at : ℕ) (s : Statement) → Each P (statement_nodes p at s)
+      each_statement at (assign kind v e) = one_more_lem (a-statement (assign kind v e)) (each_expression (at + 4) e)
+      each_statement at (assign_bit kind v k e) = one_more_lem (a-statement (assign_bit kind v k e)) (each_expression (at + 5) e)
+      each_statement at (if_else c a b) =
           let first : ℕ = at + 3 + length (expression_bytes c) in
           one_more_lem (a-statement (if_else c a b))
-          (each_append (each_append (each-expression (at + 3) c) (each-block (first + 3) a)) (each-block (past first (block_payload a) + 3) b))
-      each-statement at (case e items) =
-          one_more_lem (a-statement (case e items)) (each_append (each-expression (at + 3) e) (each-items (at + 3 + length (expression_bytes e)) e items))
+          (each_append (each_append (each_expression (at + 3) c) (each_block (first + 3) a)) (each_block (past first (block_payload a) + 3) b))
+      each_statement at (case e items) =
+          one_more_lem (a-statement (case e items)) (each_append (each_expression (at + 3) e) (each_items (at + 3 + length (expression_bytes e)) e items))
 
-      pub each-block : (at : ℕ) (b : Block) → Each P (block_nodes p at b)
-      each-block at end = no_field
-      each-block at (s then b) = each_append (each-statement at s) (each-block (at + length (statement_bytes s)) b)
+      pub each_block : (at : ℕ) (b : Block) → Each P (block_nodes p at b)
+      each_block at end = no_field
+      each_block at (s then b) = each_append (each_statement at s) (each_block (at + length (statement_bytes s)) b)
 
-      each-items : (at : ℕ) (e : Expression) (items : Items) → Each P (items_nodes p at e items)
-      each-items at e (default b) = each-block (at + 3) b
-      each-items at e (item w v b items) =
+      each_items : (at : ℕ) (e : Expression) (items : Items) → Each P (items_nodes p at e items)
+      each_items at e (default b) = each_block (at + 3) b
+      each_items at e (item w v b items) =
           one_more_lem (an_item e w) (one_more_lem (an-expression (constant w v))
-          (each_append (each-block (at + 14) b) (each-items (past (at + 11) (block_payload b)) e items)))
+          (each_append (each_block (at + 14) b) (each_items (past (at + 11) (block_payload b)) e items)))
 
 -- where processes have it too, each field of a list of processes has
-pub each-process : {P : Node → Type 0} → ((p : ℕ) → P (field_in p process)) → ((p : ℕ) (e : Expression) → P (field_in p (expression e))) →
+pub each_process : {P : Node → Type 0} → ((p : ℕ) → P (field_in p process)) → ((p : ℕ) (e : Expression) → P (field_in p (expression e))) →
     ((p : ℕ) (s : Statement) → P (field_in p (statement s))) → ((p : ℕ) (e : Expression) (w : ℕ) → P (field_in p (item_of e w))) →
     (p at : ℕ) (l : List Block) → Each P (process_nodes p at l)
 unfolding process_nodes
-each-process pr ex st it p at [] = no_field
-each-process pr ex st it p at (b ∷ l) =
-    one_more_lem (pr p) (each_append (each-block p (ex p) (st p) (it p) (at + 3) b) (each-process pr ex st it (p + 1) (at + length (process_bytes b)) l))
+each_process pr ex st it p at [] = no_field
+each_process pr ex st it p at (b ∷ l) =
+    one_more_lem (pr p) (each_append (each_block p (ex p) (st p) (it p) (at + 3) b) (each_process pr ex st it (p + 1) (at + length (process_bytes b)) l))

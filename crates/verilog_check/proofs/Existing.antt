@@ -12,7 +12,7 @@ use Rattle.tagged.specs.declared.answers.Rule.TheVariants as Rule
 use Rattle.verilog.specs.Tree.{constant, variable, fixed_bit, chosen_bit, one, two, assign, assign_bit, if_else, case}
 use Rattle.verilog.specs.Nodes.{What, declaration, process, expression, statement, item_of, Node}
 use Rattle.verilog.specs.Rules.{is_assignment, is_read, breaks}
-use Rattle.verilog.proofs.BreaksLaws.{register-exists}
+use Rattle.verilog.proofs.BreaksLaws.{register_exists}
 
 module _ (ds : List Declaration) (all earlier : List Node) (n : Node) (passes : breaks ds all Rule.Reference earlier n ≡ false) where
   abbrev same : What → Node
@@ -34,16 +34,16 @@ module _ (ds : List Declaration) (all earlier : List Node) (n : Node) (passes : 
       go (statement s) e = refl
       go (item_of x w) e = refl
 
-  pub assignments-same : (f g : Kind → ℕ → Bool) → ((kind : Kind) (v : ℕ) → v < length ds → f kind v ≡ g kind v) → is_assignment f n ≡ is_assignment g n
+  pub assignments_same : (f g : Kind → ℕ → Bool) → ((kind : Kind) (v : ℕ) → v < length ds → f kind v ≡ g kind v) → is_assignment f n ≡ is_assignment g n
   unfolding breaks
-  assignments-same f g agree = go n.what passes
+  assignments_same f g agree = go n.what passes
     where
       go : (w : What) → breaks ds all Rule.Reference earlier (same w) ≡ false → is_assignment f (same w) ≡ is_assignment g (same w)
       go (declaration d) e = refl
       go process e = refl
       go (expression x) e = refl
-      go (statement (assign kind v x)) e = agree kind v (register-exists ds v (not-false (register_at ds v) e))
-      go (statement (assign_bit kind v k x)) e = agree kind v (register-exists ds v (not-false (register_at ds v) e))
+      go (statement (assign kind v x)) e = agree kind v (register_exists ds v (not-false (register_at ds v) e))
+      go (statement (assign_bit kind v k x)) e = agree kind v (register_exists ds v (not-false (register_at ds v) e))
       go (statement (if_else c a b)) e = refl
       go (statement (case x items)) e = refl
       go (item_of x w) e = refl

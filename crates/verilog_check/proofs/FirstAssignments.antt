@@ -15,31 +15,31 @@ use Rattle.tagged.specs.Refusals.{first_broken}
 use Rattle.tagged.specs.Declarations.{Declaration, declaration_breaks}
 use Rattle.tagged.specs.declared.answers.Rule.{Rule}
 use Rattle.tagged.specs.declared.answers.Found.TheVariants as Found
-use Rattle.tagged.proofs.RefusalLaws.{nowhere-passes}
-use Rattle.tagged.proofs.FoundLaws.{unplaced-append, found-same}
+use Rattle.tagged.proofs.RefusalLaws.{nowhere_passes}
+use Rattle.tagged.proofs.FoundLaws.{unplaced_append, found_same}
 use Rattle.verilog.specs.Tree.{Module}
 use Rattle.verilog.specs.Nodes.{Node, declaration_nodes, module_nodes}
 use Rattle.verilog.specs.Rules.{is_assignment, is_blocking, some_node, breaks, module_broken}
-use Rattle.verilog.proofs.DeclarationsKept.{declaration_node, declared-nodes}
+use Rattle.verilog.proofs.DeclarationsKept.{declaration_node, declared_nodes}
 use Rattle.verilog_check.specs.Tables.{first_code, other_kind, other_process, blocked_elsewhere}
 use Rattle.verilog_check.specs.Judged.{judged}
 use Rattle.verilog_check.proofs.Firsts.{code_of, first_in}
-use Rattle.verilog_check.proofs.SomeField.{none-member, first-decides}
-use Rattle.verilog_check.proofs.RulesByTables.{process_fields, found_by, undeclared-found}
-use Rattle.verilog_check.proofs.AssignmentCodes.{code-kind, code-process}
-use Rattle.verilog_check.proofs.FirstUnlike.{unlike, unlike_earlier, unlike_first, Alike, first-unlike, nowhere-alike}
-use Rattle.verilog_check.proofs.TestsByCode.{OfAssignments, of-both-kinds, of-two-processes, part_of, undeclared, breaks-by-code, elsewhere, elsewhere-code}
-use Rattle.verilog_check.proofs.Existing.{reads_same, assignments-same}
+use Rattle.verilog_check.proofs.SomeField.{none_member, first_decides}
+use Rattle.verilog_check.proofs.RulesByTables.{process_fields, found_by, undeclared_found}
+use Rattle.verilog_check.proofs.AssignmentCodes.{code_kind, code_process}
+use Rattle.verilog_check.proofs.FirstUnlike.{unlike, unlike_earlier, unlike_first, Alike, first_unlike, nowhere_alike}
+use Rattle.verilog_check.proofs.TestsByCode.{OfAssignments, of_both_kinds, of_two_processes, part_of, undeclared, breaks_by_code, elsewhere, elsewhere_code}
+use Rattle.verilog_check.proofs.Existing.{reads_same, assignments_same}
 
 -- declarations are no assignments
-declared-first : (v : ℕ) (ds : List Declaration) (l : List Node) → first_in v (map declaration_node ds ++ l) ≡ first_in v l
+declared_first : (v : ℕ) (ds : List Declaration) (l : List Node) → first_in v (map declaration_node ds ++ l) ≡ first_in v l
 unfolding first_in
-declared-first v [] l = refl
-declared-first v (d ∷ ds) l = declared-first v ds l
+declared_first v [] l = refl
+declared_first v (d ∷ ds) l = declared_first v ds l
 
-declared-alike : (part first : ℕ → ℕ) (ds : List Declaration) → Alike part first (map declaration_node ds)
-declared-alike part first [] v = refl
-declared-alike part first (d ∷ ds) v = declared-alike part first ds v
+declared_alike : (part first : ℕ → ℕ) (ds : List Declaration) → Alike part first (map declaration_node ds)
+declared_alike part first [] v = refl
+declared_alike part first (d ∷ ds) v = declared_alike part first ds v
 
 module _ (base : ℕ) (m : Module) where
   abbrev ds : List Declaration
@@ -53,74 +53,74 @@ module _ (base : ℕ) (m : Module) where
   first_of v = first_in v (unplaced (process_fields base m))
 
   -- 9 and 10, by the first assignment to the same variable
-  unlike-found : {rule : Rule} (of : OfAssignments rule) → module_broken base m rule ≡ first_broken (λ passed n. unlike_first (part_of of) first_of n) [] (process_fields base m)
-  unlike-found {rule} of =
-      undeclared-found base m rule (undeclared of)
-      ∙ found-same (breaks ds all rule) (unlike_earlier (part_of of)) (map declaration_node ds) (map declaration_node ds) (process_fields base m)
-      (λ passed p n s. breaks-by-code ds all of (map declaration_node ds ++ passed) n)
-      ∙ first-unlike (part_of of) first_of (map declaration_node ds) (process_fields base m) (λ v. sym (declared-first v ds (unplaced (process_fields base m))))
-      (declared-alike (part_of of) first_of ds) []
+  unlike_found : {rule : Rule} (of : OfAssignments rule) → module_broken base m rule ≡ first_broken (λ passed n. unlike_first (part_of of) first_of n) [] (process_fields base m)
+  unlike_found {rule} of =
+      undeclared_found base m rule (undeclared of)
+      ∙ found_same (breaks ds all rule) (unlike_earlier (part_of of)) (map declaration_node ds) (map declaration_node ds) (process_fields base m)
+      (λ passed p n s. breaks_by_code ds all of (map declaration_node ds ++ passed) n)
+      ∙ first_unlike (part_of of) first_of (map declaration_node ds) (process_fields base m) (λ v. sym (declared_first v ds (unplaced (process_fields base m))))
+      (declared_alike (part_of of) first_of ds) []
 
   -- where such a rule has no place, every assignment has that part of its code from the first one to its variable
-  pub part-of-first : {rule : Rule} (of : OfAssignments rule) → module_broken base m rule ≡ Found.Nowhere → (v : ℕ) (n : Node) →
+  pub part_of_first : {rule : Rule} (of : OfAssignments rule) → module_broken base m rule ≡ Found.Nowhere → (v : ℕ) (n : Node) →
       Memᴰ n (map declaration_node m.declarations ++ unplaced (process_fields base m)) → (code_of v n ≡ 0 → ⊥) →
       part_of of (code_of v n) ≡ part_of of (first_in v (unplaced (process_fields base m)))
-  part-of-first of e v n i some =
-      let alike = nowhere-alike (part_of of) first_of (map declaration_node ds) (process_fields base m) [] (declared-alike (part_of of) first_of ds) (sym (unlike-found of) ∙ e) v in
-      let like = none-member (λ k. unlike (part_of of) (part_of of (first_of v)) (code_of v k)) (map declaration_node ds ++ unplaced (process_fields base m)) alike n i in
+  part_of_first of e v n i some =
+      let alike = nowhere_alike (part_of of) first_of (map declaration_node ds) (process_fields base m) [] (declared_alike (part_of of) first_of ds) (sym (unlike_found of) ∙ e) v in
+      let like = none_member (λ k. unlike (part_of of) (part_of of (first_of v)) (code_of v k)) (map declaration_node ds ++ unplaced (process_fields base m)) alike n i in
       eqb-true (part_of of (code_of v n)) (part_of of (first_of v)) (not-false (eqb (part_of of (code_of v n)) (part_of of (first_of v)))
       (rw (ne_eqb (code_of v n) 0 some) at like))
 
   -- the fields of the module, without places
-  all-fields : unplaced (module_nodes base m) ≡ map declaration_node m.declarations ++ unplaced (process_fields base m)
+  all_fields : unplaced (module_nodes base m) ≡ map declaration_node m.declarations ++ unplaced (process_fields base m)
   unfolding module_nodes
-  all-fields = unplaced-append (declaration_nodes base ds) (process_fields base m) ∙ ap (λ (l : List Node). l ++ unplaced (process_fields base m)) (declared-nodes base ds)
+  all_fields = unplaced_append (declaration_nodes base ds) (process_fields base m) ∙ ap (λ (l : List Node). l ++ unplaced (process_fields base m)) (declared_nodes base ds)
 
   module _ (widths marks firsts : List ℕ)
       (tabled : (v : ℕ) → v < most_variables → get_or firsts v 0 ≡ first_in v (unplaced (process_fields base m)))
       (few : length m.declarations ≤ most_variables) (existing : module_broken base m Rule.Reference ≡ Found.Nowhere) where
-    reference-passes : {passed : List Node} {p : ℕ} {n : Node} → Stands (process_fields base m) passed p n → breaks ds all Rule.Reference (map declaration_node ds ++ passed) n ≡ false
+    reference_passes : {passed : List Node} {p : ℕ} {n : Node} → Stands (process_fields base m) passed p n → breaks ds all Rule.Reference (map declaration_node ds ++ passed) n ≡ false
     unfolding declaration_breaks
-    reference-passes s =
-        nowhere-passes (breaks ds all Rule.Reference) (map declaration_node ds) s (sym (undeclared-found base m Rule.Reference (λ earlier d. refl)) ∙ existing)
+    reference_passes s =
+        nowhere_passes (breaks ds all Rule.Reference) (map declaration_node ds) s (sym (undeclared_found base m Rule.Reference (λ earlier d. refl)) ∙ existing)
 
     -- 9 and 10 on one assignment, by the table
-    judged-by-first : {rule : Rule} (of : OfAssignments rule) (earlier : List Node) (n : Node) → breaks ds all Rule.Reference earlier n ≡ false →
+    judged_by_first : {rule : Rule} (of : OfAssignments rule) (earlier : List Node) (n : Node) → breaks ds all Rule.Reference earlier n ≡ false →
         unlike_first (part_of of) first_of n ≡ judged widths marks firsts rule n
     unfolding judged
-    judged-by-first of-both-kinds earlier n passes =
-        assignments-same ds all earlier n passes (λ kind v. not (eqb (first_of v % 2) (first_code (n.in_process + 1) kind % 2))) (other_kind firsts)
-        (λ kind v there. rw (tabled v (omega arith), code-kind n.in_process kind))
-    judged-by-first of-two-processes earlier n passes =
-        assignments-same ds all earlier n passes (λ kind v. not (eqb (first_of v / 2) (first_code (n.in_process + 1) kind / 2)))
+    judged_by_first of_both_kinds earlier n passes =
+        assignments_same ds all earlier n passes (λ kind v. not (eqb (first_of v % 2) (first_code (n.in_process + 1) kind % 2))) (other_kind firsts)
+        (λ kind v there. rw (tabled v (omega arith), code_kind n.in_process kind))
+    judged_by_first of_two_processes earlier n passes =
+        assignments_same ds all earlier n passes (λ kind v. not (eqb (first_of v / 2) (first_code (n.in_process + 1) kind / 2)))
         (λ kind v. other_process firsts n.in_process v)
-        (λ kind v there. rw (tabled v (omega arith), code-process n.in_process kind))
+        (λ kind v there. rw (tabled v (omega arith), code_process n.in_process kind))
 
-    pub assignments-found : {rule : Rule} → OfAssignments rule → module_broken base m rule ≡ found_by widths marks firsts base m rule
-    assignments-found {rule} of =
-        unlike-found of ∙ found-same (λ passed n. unlike_first (part_of of) first_of n) (λ passed n. judged widths marks firsts rule n) [] [] (process_fields base m)
-        (λ passed p n s. judged-by-first of (map declaration_node ds ++ passed) n (reference-passes s))
+    pub assignments_found : {rule : Rule} → OfAssignments rule → module_broken base m rule ≡ found_by widths marks firsts base m rule
+    assignments_found {rule} of =
+        unlike_found of ∙ found_same (λ passed n. unlike_first (part_of of) first_of n) (λ passed n. judged widths marks firsts rule n) [] [] (process_fields base m)
+        (λ passed p n s. judged_by_first of (map declaration_node ds ++ passed) n (reference_passes s))
 
     -- 11, where 9 and 10 have no place
     module _ (kinds : module_broken base m Rule.BothKinds ≡ Found.Nowhere) (processes : module_broken base m Rule.TwoProcesses ≡ Found.Nowhere) where
       one_code : (v : ℕ) (n : Node) → Memᴰ n (map declaration_node ds ++ unplaced (process_fields base m)) → (code_of v n ≡ 0 → ⊥) →
           code_of v n ≡ first_in v (map declaration_node ds ++ unplaced (process_fields base m))
       one_code v n i some =
-          let same : code_of v n ≡ first_of v = omega (arith, part-of-first of-both-kinds kinds v n i some, part-of-first of-two-processes processes v n i some) in
-          same ∙ sym (declared-first v ds (unplaced (process_fields base m)))
+          let same : code_of v n ≡ first_of v = omega (arith, part_of_first of_both_kinds kinds v n i some, part_of_first of_two_processes processes v n i some) in
+          same ∙ sym (declared_first v ds (unplaced (process_fields base m)))
 
-      blocked-by-first : (p v : ℕ) → v < most_variables →
+      blocked_by_first : (p v : ℕ) → v < most_variables →
           some_node (λ k. is_assignment (λ other u. is_blocking other && eqb u v && not (eqb k.in_process p)) k) all ≡ blocked_elsewhere firsts p v
-      blocked-by-first p v few =
-          ap (λ (test : Node → Bool). some_node test all) (fun_ext (elsewhere-code p v)) ∙ ap (λ (l : List Node). some_node (λ k. elsewhere p (code_of v k)) l) all-fields
-          ∙ first-decides v (elsewhere p) refl (map declaration_node ds ++ unplaced (process_fields base m)) (λ n i some. ap (elsewhere p) (one_code v n i some))
-          ∙ ap (elsewhere p) (declared-first v ds (unplaced (process_fields base m)) ∙ sym (tabled v few))
+      blocked_by_first p v few =
+          ap (λ (test : Node → Bool). some_node test all) (fun_ext (elsewhere_code p v)) ∙ ap (λ (l : List Node). some_node (λ k. elsewhere p (code_of v k)) l) all_fields
+          ∙ first_decides v (elsewhere p) refl (map declaration_node ds ++ unplaced (process_fields base m)) (λ n i some. ap (elsewhere p) (one_code v n i some))
+          ∙ ap (elsewhere p) (declared_first v ds (unplaced (process_fields base m)) ∙ sym (tabled v few))
 
-      pub reads-found : module_broken base m Rule.ReadElsewhere ≡ found_by widths marks firsts base m Rule.ReadElsewhere
+      pub reads_found : module_broken base m Rule.ReadElsewhere ≡ found_by widths marks firsts base m Rule.ReadElsewhere
       unfolding declaration_breaks breaks judged
-      reads-found =
-          undeclared-found base m Rule.ReadElsewhere (λ earlier d. refl)
-          ∙ found-same (breaks ds all Rule.ReadElsewhere) (λ passed n. judged widths marks firsts Rule.ReadElsewhere n) (map declaration_node ds) [] (process_fields base m)
-          (λ passed p n s. reads_same ds all (map declaration_node ds ++ passed) n (reference-passes s)
+      reads_found =
+          undeclared_found base m Rule.ReadElsewhere (λ earlier d. refl)
+          ∙ found_same (breaks ds all Rule.ReadElsewhere) (λ passed n. judged widths marks firsts Rule.ReadElsewhere n) (map declaration_node ds) [] (process_fields base m)
+          (λ passed p n s. reads_same ds all (map declaration_node ds ++ passed) n (reference_passes s)
           (λ v. some_node (λ k. is_assignment (λ other u. is_blocking other && eqb u v && not (eqb k.in_process n.in_process)) k) all) (blocked_elsewhere firsts n.in_process)
-          (λ v there. blocked-by-first n.in_process v (omega arith)))
+          (λ v there. blocked_by_first n.in_process v (omega arith)))

@@ -10,13 +10,13 @@ use Rattle.tagged.specs.Choice.{choose}
 use Rattle.tagged.specs.Fields.{Placed, unplaced}
 use Rattle.tagged.specs.Refusals.{first_broken}
 use Rattle.tagged.specs.declared.answers.Found.{Found}
-use Rattle.tagged.proofs.TestLaws.{neither, not-not-so}
-use Rattle.tagged.proofs.RefusalLaws.{front-passes}
+use Rattle.tagged.proofs.TestLaws.{neither, not_not_so}
+use Rattle.tagged.proofs.RefusalLaws.{front_passes}
 use Rattle.verilog.specs.Nodes.{Node}
 use Rattle.verilog.specs.Rules.{some_node}
 use Rattle.verilog_check.proofs.Firsts.{code_of, first_in}
-use Rattle.verilog_check.proofs.AssignmentCodes.{by_code, by-code-same, by-code-fails}
-use Rattle.verilog_check.proofs.SomeField.{some-append}
+use Rattle.verilog_check.proofs.AssignmentCodes.{by_code, by_code_same, by_code_fails}
+use Rattle.verilog_check.proofs.SomeField.{some_append}
 
 -- `part` of a code is what is asked
 module _ (part : ℕ → ℕ) where
@@ -33,17 +33,17 @@ module _ (part : ℕ → ℕ) where
   unlike_first first n = by_code (λ v code. not (eqb (part (first v)) (part code))) n
 
   -- after fields of which none is unlike this assignment, the first is like it
-  first-like : (v t : ℕ) (earlier : List Node) (n : Node) (rest : List Node) → some_node (λ k. unlike t (code_of v k)) earlier ≡ false →
+  first_like : (v t : ℕ) (earlier : List Node) (n : Node) (rest : List Node) → some_node (λ k. unlike t (code_of v k)) earlier ≡ false →
       (code_of v n ≡ 0 → ⊥) → part (code_of v n) ≡ t → part (first_in v (earlier ++ (n ∷ rest))) ≡ t
   unfolding first_in
-  first-like v t [] n rest e some same = go (eqb (code_of v n) 0) refl
+  first_like v t [] n rest e some same = go (eqb (code_of v n) 0) refl
     where
       go : (b : Bool) → eqb (code_of v n) 0 ≡ b → part (cond b (first_in v rest) (code_of v n)) ≡ t
       go true none = absurd (some (eqb-true (code_of v n) 0 none))
       go false h = same
-  first-like v t (k ∷ earlier) n rest e some same =
+  first_like v t (k ∷ earlier) n rest e some same =
       let passed = neither (unlike t (code_of v k)) (some_node (λ k. unlike t (code_of v k)) earlier) e in
-      go (eqb (code_of v k) 0) passed.0 (first-like v t earlier n rest passed.1 some same)
+      go (eqb (code_of v k) 0) passed.0 (first_like v t earlier n rest passed.1 some same)
     where
       go : (b : Bool) → (not b && not (eqb (part (code_of v k)) t)) ≡ false → part (first_in v (earlier ++ (n ∷ rest))) ≡ t →
           part (cond b (first_in v (earlier ++ (n ∷ rest))) (code_of v k)) ≡ t
@@ -59,13 +59,13 @@ module _ (part : ℕ → ℕ) where
     tests_agree : (earlier : List Node) (n : Node) (rest : List Node) → ((v : ℕ) → first v ≡ first_in v (earlier ++ (n ∷ rest))) → Alike earlier →
         unlike_earlier earlier n ≡ unlike_first first n
     tests_agree earlier n rest firsts alike =
-        by-code-same n (λ v code. some_node (λ k. unlike (part code) (code_of v k)) earlier) (λ v code. not (eqb (part (first v)) (part code)))
+        by_code_same n (λ v code. some_node (λ k. unlike (part code) (code_of v k)) earlier) (λ v code. not (eqb (part (first v)) (part code)))
         (λ v some. go v some (some_node (λ k. unlike (part (code_of v n)) (code_of v k)) earlier) refl)
       where
         go : (v : ℕ) → (code_of v n ≡ 0 → ⊥) → (t : Bool) → some_node (λ k. unlike (part (code_of v n)) (code_of v k)) earlier ≡ t →
             t ≡ not (eqb (part (first v)) (part (code_of v n)))
         go v some false none =
-            let like : part (first v) ≡ part (code_of v n) = ap part (firsts v) ∙ first-like v (part (code_of v n)) earlier n rest none some refl in
+            let like : part (first v) ≡ part (code_of v n) = ap part (firsts v) ∙ first_like v (part (code_of v n)) earlier n rest none some refl in
             rw (eq-eqb (part (first v)) (part (code_of v n)) like)
         go v some true found = other (eqb (part (first v)) (part (code_of v n))) refl
           where
@@ -76,26 +76,26 @@ module _ (part : ℕ → ℕ) where
                 absurd (true≢false (sym found ∙ rw like at (alike v)))
 
     -- one more that is like the first
-    alike-more : (earlier : List Node) (n : Node) → Alike earlier → unlike_first first n ≡ false → Alike (earlier ++ (n ∷ []))
-    alike-more earlier n alike e v =
-        some-append (λ k. unlike (part (first v)) (code_of v k)) earlier (n ∷ []) ∙ rw (alike v, here (eqb (code_of v n) 0) refl)
+    alike_more : (earlier : List Node) (n : Node) → Alike earlier → unlike_first first n ≡ false → Alike (earlier ++ (n ∷ []))
+    alike_more earlier n alike e v =
+        some_append (λ k. unlike (part (first v)) (code_of v k)) earlier (n ∷ []) ∙ rw (alike v, here (eqb (code_of v n) 0) refl)
       where
         here : (t : Bool) → eqb (code_of v n) 0 ≡ t → (not t && not (eqb (part (code_of v n)) (part (first v)))) ≡ false
         here true none = refl
         here false some =
-            let like = by-code-fails n (λ v code. not (eqb (part (first v)) (part code))) e v (eqb-false (code_of v n) 0 some) in
+            let like = by_code_fails n (λ v code. not (eqb (part (first v)) (part code))) e v (eqb-false (code_of v n) 0 some) in
             let same = eqb-true (part (first v)) (part (code_of v n)) (not-false (eqb (part (first v)) (part (code_of v n))) like) in
-            not-not-so (eq-eqb (part (code_of v n)) (part (first v)) (sym same))
+            not_not_so (eq-eqb (part (code_of v n)) (part (first v)) (sym same))
 
     -- the first place is the same
-    pub first-unlike : (earlier : List Node) (l : List (Placed Node)) → ((v : ℕ) → first v ≡ first_in v (earlier ++ unplaced l)) → Alike earlier → (after : List Node) →
+    pub first_unlike : (earlier : List Node) (l : List (Placed Node)) → ((v : ℕ) → first v ≡ first_in v (earlier ++ unplaced l)) → Alike earlier → (after : List Node) →
         first_broken unlike_earlier earlier l ≡ first_broken (λ passed n. unlike_first first n) after l
     unfolding first_broken
-    first-unlike earlier [] firsts alike after = refl
-    first-unlike earlier (x ∷ l) firsts alike after =
+    first_unlike earlier [] firsts alike after = refl
+    first_unlike earlier (x ∷ l) firsts alike after =
         let test : unlike_earlier earlier x.what ≡ unlike_first first x.what = tests_agree earlier x.what (unplaced l) firsts alike in
         rw test (go (unlike_first first x.what) refl
-        (λ e. first-unlike (earlier ++ (x.what ∷ [])) l (λ v. firsts v ∙ rw append_assoc) (alike-more earlier x.what alike e) (after ++ (x.what ∷ []))))
+        (λ e. first_unlike (earlier ++ (x.what ∷ [])) l (λ v. firsts v ∙ rw append_assoc) (alike_more earlier x.what alike e) (after ++ (x.what ∷ []))))
       where
         before' : Found
         before' = first_broken unlike_earlier (earlier ++ (x.what ∷ [])) l
@@ -109,10 +109,10 @@ module _ (part : ℕ → ℕ) where
         go false e later = later e
 
     -- where there is none, all are alike
-    pub nowhere-alike : (earlier : List Node) (l : List (Placed Node)) (after : List Node) → Alike earlier →
+    pub nowhere_alike : (earlier : List Node) (l : List (Placed Node)) (after : List Node) → Alike earlier →
         first_broken (λ passed n. unlike_first first n) after l ≡ Found.Nowhere → Alike (earlier ++ unplaced l)
-    nowhere-alike earlier [] after alike e = rw append-nil alike
-    nowhere-alike earlier (x ∷ l) after alike e =
-        let passed = front-passes (λ passed n. unlike_first first n) after x l e in
+    nowhere_alike earlier [] after alike e = rw append-nil alike
+    nowhere_alike earlier (x ∷ l) after alike e =
+        let passed = front_passes (λ passed n. unlike_first first n) after x l e in
         rw append_assoc at
-        (nowhere-alike (earlier ++ (x.what ∷ [])) l (after ++ (x.what ∷ [])) (alike-more earlier x.what alike passed.0) passed.1)
+        (nowhere_alike (earlier ++ (x.what ∷ [])) l (after ++ (x.what ∷ [])) (alike_more earlier x.what alike passed.0) passed.1)

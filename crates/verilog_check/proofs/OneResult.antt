@@ -6,5 +6,5 @@ use Rattle.tagged.specs.declared.answers.Answer.{Answer}
 use Rattle.tagged.proofs.AnswerLaws.{one_answer_lem}
 use Rattle.verilog.specs.Answer.{module_answer}
 
-pub check-once : (file : List ℕ) {a b : Answer} → a ≡ module_answer file → b ≡ module_answer file → a ≡ b
-check-once file p q = one_answer_lem p q
+pub check_once : (file : List ℕ) {a b : Answer} → a ≡ module_answer file → b ≡ module_answer file → a ≡ b
+check_once file p q = one_answer_lem p q

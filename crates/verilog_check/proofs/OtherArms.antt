@@ -14,13 +14,13 @@ use Rattle.verilog_check.specs.Walk.{statement_of}
 
 -- the sorts of expression that a match leaves over: all but a constant, all but a read, all but two operands, all but a bit
 module _ (d : ℕ) (l : List ℕ) where
-  pub no-constant : (e : ExpressionSort) → (e ≡ ExpressionSort.Constant → ⊥) → false ≡ constant_broken (expression_with (expression_in d) e l)
-  no-constant ExpressionSort.Constant k = absurd (k refl)
-  no-constant ExpressionSort.Variable k = refl
-  no-constant ExpressionSort.FixedBit k = refl
-  no-constant ExpressionSort.ChosenBit k = refl
-  no-constant (ExpressionSort.One op) k = refl
-  no-constant (ExpressionSort.Two op) k = refl
+  pub no_constant : (e : ExpressionSort) → (e ≡ ExpressionSort.Constant → ⊥) → false ≡ constant_broken (expression_with (expression_in d) e l)
+  no_constant ExpressionSort.Constant k = absurd (k refl)
+  no_constant ExpressionSort.Variable k = refl
+  no_constant ExpressionSort.FixedBit k = refl
+  no_constant ExpressionSort.ChosenBit k = refl
+  no_constant (ExpressionSort.One op) k = refl
+  no_constant (ExpressionSort.Two op) k = refl
 
   pub no_read : (test : ℕ → Bool) (e : ExpressionSort) → (e ≡ ExpressionSort.Variable → ⊥) → (e ≡ ExpressionSort.FixedBit → ⊥) → (e ≡ ExpressionSort.ChosenBit → ⊥) → false ≡ reads_by test (expression_with (expression_in d) e l)
   no_read test ExpressionSort.Constant no_variable no_fixed_bit no_chosen_bit = refl
@@ -39,24 +39,24 @@ module _ (d : ℕ) (l : List ℕ) where
     no_second (ExpressionSort.One op) k = refl
     no_second (ExpressionSort.Two op) k = absurd (k op refl)
 
-    pub no-bit : (e : ExpressionSort) → (e ≡ ExpressionSort.FixedBit → ⊥) → (e ≡ ExpressionSort.ChosenBit → ⊥) → false ≡ read_outside ds (expression_with (expression_in d) e l)
-    no-bit ExpressionSort.Constant no_fixed_bit no_chosen_bit = refl
-    no-bit ExpressionSort.Variable no_fixed_bit no_chosen_bit = refl
-    no-bit ExpressionSort.FixedBit no_fixed_bit no_chosen_bit = absurd (no_fixed_bit refl)
-    no-bit ExpressionSort.ChosenBit no_fixed_bit no_chosen_bit = absurd (no_chosen_bit refl)
-    no-bit (ExpressionSort.One op) no_fixed_bit no_chosen_bit = refl
-    no-bit (ExpressionSort.Two op) no_fixed_bit no_chosen_bit = refl
+    pub no_bit : (e : ExpressionSort) → (e ≡ ExpressionSort.FixedBit → ⊥) → (e ≡ ExpressionSort.ChosenBit → ⊥) → false ≡ read_outside ds (expression_with (expression_in d) e l)
+    no_bit ExpressionSort.Constant no_fixed_bit no_chosen_bit = refl
+    no_bit ExpressionSort.Variable no_fixed_bit no_chosen_bit = refl
+    no_bit ExpressionSort.FixedBit no_fixed_bit no_chosen_bit = absurd (no_fixed_bit refl)
+    no_bit ExpressionSort.ChosenBit no_fixed_bit no_chosen_bit = absurd (no_chosen_bit refl)
+    no_bit (ExpressionSort.One op) no_fixed_bit no_chosen_bit = refl
+    no_bit (ExpressionSort.Two op) no_fixed_bit no_chosen_bit = refl
 
 -- the sorts of statement that a match leaves over: all but an assignment, all but one to a bit
 module _ (d : ℕ) (l : List ℕ) where
-  pub no-assignment : (test : Kind → ℕ → Bool) (s : StatementSort) → ((kind : Kind) → s ≡ StatementSort.Assign kind → ⊥) → ((kind : Kind) → s ≡ StatementSort.AssignBit kind → ⊥) → false ≡ assigns_by test (statement_of d s l)
-  no-assignment test (StatementSort.Assign kind) no_assign no_assign_bit = absurd (no_assign kind refl)
-  no-assignment test (StatementSort.AssignBit kind) no_assign no_assign_bit = absurd (no_assign_bit kind refl)
-  no-assignment test StatementSort.If no_assign no_assign_bit = refl
-  no-assignment test StatementSort.Case no_assign no_assign_bit = refl
+  pub no_assignment : (test : Kind → ℕ → Bool) (s : StatementSort) → ((kind : Kind) → s ≡ StatementSort.Assign kind → ⊥) → ((kind : Kind) → s ≡ StatementSort.AssignBit kind → ⊥) → false ≡ assigns_by test (statement_of d s l)
+  no_assignment test (StatementSort.Assign kind) no_assign no_assign_bit = absurd (no_assign kind refl)
+  no_assignment test (StatementSort.AssignBit kind) no_assign no_assign_bit = absurd (no_assign_bit kind refl)
+  no_assignment test StatementSort.If no_assign no_assign_bit = refl
+  no_assignment test StatementSort.Case no_assign no_assign_bit = refl
 
-  pub no-bit-write : (ds : List Declaration) (s : StatementSort) → ((kind : Kind) → s ≡ StatementSort.AssignBit kind → ⊥) → false ≡ write_outside ds (statement_of d s l)
-  no-bit-write ds (StatementSort.Assign kind) k = refl
-  no-bit-write ds (StatementSort.AssignBit kind) k = absurd (k kind refl)
-  no-bit-write ds StatementSort.If k = refl
-  no-bit-write ds StatementSort.Case k = refl
+  pub no_bit_write : (ds : List Declaration) (s : StatementSort) → ((kind : Kind) → s ≡ StatementSort.AssignBit kind → ⊥) → false ≡ write_outside ds (statement_of d s l)
+  no_bit_write ds (StatementSort.Assign kind) k = refl
+  no_bit_write ds (StatementSort.AssignBit kind) k = absurd (k kind refl)
+  no_bit_write ds StatementSort.If k = refl
+  no_bit_write ds StatementSort.Case k = refl

@@ -8,30 +8,30 @@ use lib.Dec.{eqb}
 use borrow.Author.Tests.{eqb-true, eqb-false}
 use Rattle.tagged.specs.Fields.{Placed, unplaced}
 use Rattle.tagged.proofs.TestLaws.{neither}
-use Rattle.tagged.proofs.FoundLaws.{unplaced-append}
+use Rattle.tagged.proofs.FoundLaws.{unplaced_append}
 use Rattle.verilog.specs.Nodes.{Node}
 use Rattle.verilog.specs.Rules.{some_node}
 use Rattle.verilog_check.proofs.Firsts.{code_of, first_in}
 use Rattle.verilog_check.proofs.EachField.{Each, no_field, one_more_lem}
 
 module _ (test : Node → Bool) where
-  pub some-append : (a b : List Node) → some_node test (a ++ b) ≡ (some_node test a || some_node test b)
-  some-append [] b = refl
-  some-append (n ∷ a) b = ap (λ (t : Bool). test n || t) (some-append a b) ∙ sym (or_assoc (test n) (some_node test a) (some_node test b))
+  pub some_append : (a b : List Node) → some_node test (a ++ b) ≡ (some_node test a || some_node test b)
+  some_append [] b = refl
+  some_append (n ∷ a) b = ap (λ (t : Bool). test n || t) (some_append a b) ∙ sym (or_assoc (test n) (some_node test a) (some_node test b))
 
   -- the same of lists with places
-  pub some-joined : (a b : List (Placed Node)) → some_node test (unplaced (a ++ b)) ≡ (some_node test (unplaced a) || some_node test (unplaced b))
-  some-joined a b = ap (some_node test) (unplaced-append a b) ∙ some-append (unplaced a) (unplaced b)
+  pub some_joined : (a b : List (Placed Node)) → some_node test (unplaced (a ++ b)) ≡ (some_node test (unplaced a) || some_node test (unplaced b))
+  some_joined a b = ap (some_node test) (unplaced_append a b) ∙ some_append (unplaced a) (unplaced b)
 
   pub each_none : {l : List (Placed Node)} → Each (λ n. test n ≡ false) l → some_node test (unplaced l) ≡ false
   each_none no_field = refl
   each_none (one_more_lem e r) = rw e (each_none r)
 
   -- where none passes, no member does
-  pub none-member : (l : List Node) → some_node test l ≡ false → (n : Node) → Memᴰ n l → test n ≡ false
-  none-member (k ∷ l) e n (Memᴰ.head same) = rw same (neither (test k) (some_node test l) e).0
-  none-member (k ∷ l) e n (Memᴰ.tail m) = none-member l (neither (test k) (some_node test l) e).1 n m
-  none-member [] e n x'' = elim x'' [ ]
+  pub none_member : (l : List Node) → some_node test l ≡ false → (n : Node) → Memᴰ n l → test n ≡ false
+  none_member (k ∷ l) e n (Memᴰ.head same) = rw same (neither (test k) (some_node test l) e).0
+  none_member (k ∷ l) e n (Memᴰ.tail m) = none_member l (neither (test k) (some_node test l) e).1 n m
+  none_member [] e n x'' = elim x'' [ ]
 
 either_way : (t r : Bool) {s : Bool} → s ≡ cond t false r → (r || s) ≡ r
 either_way t true h = refl
@@ -52,9 +52,9 @@ module _ (v : ℕ) (code : ℕ → Bool) (zero-fails : code 0 ≡ false) (result
       go false some h = rw (some, alike n (Memᴰ.head refl) (eqb-false (code_of v n) 0 some)) (either_way (eqb (first_in v l) 0) result h)
 
 -- so where that result is the first one's, the first decides
-pub first-decides : (v : ℕ) (code : ℕ → Bool) → code 0 ≡ false → (l : List Node) →
+pub first_decides : (v : ℕ) (code : ℕ → Bool) → code 0 ≡ false → (l : List Node) →
     ((n : Node) → Memᴰ n l → (code_of v n ≡ 0 → ⊥) → code (code_of v n) ≡ code (first_in v l)) → some_node (λ n. code (code_of v n)) l ≡ code (first_in v l)
-first-decides v code zero-fails l alike = some_alike v code zero-fails (code (first_in v l)) l alike ∙ go (eqb (first_in v l) 0) refl
+first_decides v code zero-fails l alike = some_alike v code zero-fails (code (first_in v l)) l alike ∙ go (eqb (first_in v l) 0) refl
   where
     go : (t : Bool) → eqb (first_in v l) 0 ≡ t → cond t false (code (first_in v l)) ≡ code (first_in v l)
     go true none = rw (eqb-true (first_in v l) 0 none, zero-fails)

@@ -14,60 +14,60 @@ use Rattle.tagged.specs.declared.sorts.StatementSort.{StatementSort}
 use Rattle.tagged.specs.declared.sorts.Sort.{Sort}
 use Rattle.tagged.specs.declared.fields.Opened.{Opened}
 use Rattle.tagged.proofs.ByteLaws.{rest}
-use Rattle.tagged.proofs.FieldLaws.{Whole, open-whole, whole_open}
+use Rattle.tagged.proofs.FieldLaws.{Whole, open_whole, whole_open}
 use Rattle.verilog_check.specs.Tables.{kind_bit, with_first}
 use Rattle.verilog_check.specs.Survey.{step_over, begun_after, noted, survey_from}
 
 -- how far the next field stands
-pub over-assignment : (s : StatementSort) → (s ≡ StatementSort.If → ⊥) → (s ≡ StatementSort.Case → ⊥) → (n : ℕ) → step_over (Sort.Statement s) n ≡ n + 3
+pub over_assignment : (s : StatementSort) → (s ≡ StatementSort.If → ⊥) → (s ≡ StatementSort.Case → ⊥) → (n : ℕ) → step_over (Sort.Statement s) n ≡ n + 3
 unfolding step_over
-over-assignment (StatementSort.Assign kind) no_if no_case n = refl
-over-assignment (StatementSort.AssignBit kind) no_if no_case n = refl
-over-assignment StatementSort.If no_if no_case n = absurd (no_if refl)
-over-assignment StatementSort.Case no_if no_case n = absurd (no_case refl)
+over_assignment (StatementSort.Assign kind) no_if no_case n = refl
+over_assignment (StatementSort.AssignBit kind) no_if no_case n = refl
+over_assignment StatementSort.If no_if no_case n = absurd (no_if refl)
+over_assignment StatementSort.Case no_if no_case n = absurd (no_case refl)
 
-pub over-other : (s : Sort) → ((t : StatementSort) → s ≡ Sort.Statement t → ⊥) → (s ≡ Sort.Process → ⊥) → (s ≡ Sort.Item → ⊥) → (s ≡ Sort.Block → ⊥) → (n : ℕ) → step_over s n ≡ n + 3
+pub over_other : (s : Sort) → ((t : StatementSort) → s ≡ Sort.Statement t → ⊥) → (s ≡ Sort.Process → ⊥) → (s ≡ Sort.Item → ⊥) → (s ≡ Sort.Block → ⊥) → (n : ℕ) → step_over s n ≡ n + 3
 unfolding step_over
-over-other Sort.Module no_statement no_process no_item no_block n = refl
-over-other (Sort.Declaration d) no_statement no_process no_item no_block n = refl
-over-other Sort.Process no_statement no_process no_item no_block n = absurd (no_process refl)
-over-other (Sort.Statement s) no_statement no_process no_item no_block n = absurd (no_statement s refl)
-over-other Sort.Item no_statement no_process no_item no_block n = absurd (no_item refl)
-over-other Sort.Block no_statement no_process no_item no_block n = absurd (no_block refl)
-over-other (Sort.Expression e) no_statement no_process no_item no_block n = refl
-over-other (Sort.Cell c) no_statement no_process no_item no_block n = refl
-over-other Sort.Drive no_statement no_process no_item no_block n = refl
-over-other Sort.Netlist no_statement no_process no_item no_block n = refl
-over-other Sort.Unknown no_statement no_process no_item no_block n = refl
+over_other Sort.Module no_statement no_process no_item no_block n = refl
+over_other (Sort.Declaration d) no_statement no_process no_item no_block n = refl
+over_other Sort.Process no_statement no_process no_item no_block n = absurd (no_process refl)
+over_other (Sort.Statement s) no_statement no_process no_item no_block n = absurd (no_statement s refl)
+over_other Sort.Item no_statement no_process no_item no_block n = absurd (no_item refl)
+over_other Sort.Block no_statement no_process no_item no_block n = absurd (no_block refl)
+over_other (Sort.Expression e) no_statement no_process no_item no_block n = refl
+over_other (Sort.Cell c) no_statement no_process no_item no_block n = refl
+over_other Sort.Drive no_statement no_process no_item no_block n = refl
+over_other Sort.Netlist no_statement no_process no_item no_block n = refl
+over_other Sort.Unknown no_statement no_process no_item no_block n = refl
 
 -- how many processes have begun
-pub begun-other : (s : Sort) → (s ≡ Sort.Process → ⊥) → (begun : ℕ) → begun_after s begun ≡ begun
+pub begun_other : (s : Sort) → (s ≡ Sort.Process → ⊥) → (begun : ℕ) → begun_after s begun ≡ begun
 unfolding begun_after
-begun-other Sort.Module k begun = refl
-begun-other (Sort.Declaration d) k begun = refl
-begun-other Sort.Process k begun = absurd (k refl)
-begun-other (Sort.Statement s) k begun = refl
-begun-other Sort.Item k begun = refl
-begun-other Sort.Block k begun = refl
-begun-other (Sort.Expression e) k begun = refl
-begun-other (Sort.Cell c) k begun = refl
-begun-other Sort.Drive k begun = refl
-begun-other Sort.Netlist k begun = refl
-begun-other Sort.Unknown k begun = refl
+begun_other Sort.Module k begun = refl
+begun_other (Sort.Declaration d) k begun = refl
+begun_other Sort.Process k begun = absurd (k refl)
+begun_other (Sort.Statement s) k begun = refl
+begun_other Sort.Item k begun = refl
+begun_other Sort.Block k begun = refl
+begun_other (Sort.Expression e) k begun = refl
+begun_other (Sort.Cell c) k begun = refl
+begun_other Sort.Drive k begun = refl
+begun_other Sort.Netlist k begun = refl
+begun_other Sort.Unknown k begun = refl
 
 -- the bit of a kind is a bit
-pub kind-within : (kind : Kind) → kind_bit kind ≤ 1
-kind-within Kind.Blocking = omega arith
-kind-within Kind.NonBlocking = omega arith
+pub kind_within : (kind : Kind) → kind_bit kind ≤ 1
+kind_within Kind.Blocking = omega arith
+kind_within Kind.NonBlocking = omega arith
 
 -- the table after a field
 module _ (v begun : ℕ) (firsts : List ℕ) where
-  pub noted-choice : (s : StatementSort) → ((kind : Kind) → s ≡ StatementSort.Assign kind → ⊥) → ((kind : Kind) → s ≡ StatementSort.AssignBit kind → ⊥) → noted (Sort.Statement s) v begun firsts ≡ firsts
+  pub noted_choice : (s : StatementSort) → ((kind : Kind) → s ≡ StatementSort.Assign kind → ⊥) → ((kind : Kind) → s ≡ StatementSort.AssignBit kind → ⊥) → noted (Sort.Statement s) v begun firsts ≡ firsts
   unfolding noted
-  noted-choice (StatementSort.Assign kind) no_assign no_assign_bit = absurd (no_assign kind refl)
-  noted-choice (StatementSort.AssignBit kind) no_assign no_assign_bit = absurd (no_assign_bit kind refl)
-  noted-choice StatementSort.If no_assign no_assign_bit = refl
-  noted-choice StatementSort.Case no_assign no_assign_bit = refl
+  noted_choice (StatementSort.Assign kind) no_assign no_assign_bit = absurd (no_assign kind refl)
+  noted_choice (StatementSort.AssignBit kind) no_assign no_assign_bit = absurd (no_assign_bit kind refl)
+  noted_choice StatementSort.If no_assign no_assign_bit = refl
+  noted_choice StatementSort.Case no_assign no_assign_bit = refl
 
   pub noted_other : (s : Sort) → ((t : StatementSort) → s ≡ Sort.Statement t → ⊥) → noted s v begun firsts ≡ firsts
   unfolding noted
@@ -85,17 +85,17 @@ module _ (v begun : ℕ) (firsts : List ℕ) where
 
 -- an assignment in the table, where there was none, or one
 module _ (firsts : List ℕ) (v code : ℕ) where
-  pub first-new : get_or firsts v 0 ≡ 0 → with_first firsts v code ≡ set firsts v code
+  pub first_new : get_or firsts v 0 ≡ 0 → with_first firsts v code ≡ set firsts v code
   unfolding with_first
-  first-new e = rw (eq-eqb _ _ e)
+  first_new e = rw (eq-eqb _ _ e)
 
-  pub first-kept : (get_or firsts v 0 ≡ 0 → ⊥) → with_first firsts v code ≡ firsts
+  pub first_kept : (get_or firsts v 0 ≡ 0 → ⊥) → with_first firsts v code ≡ firsts
   unfolding with_first
-  first-kept e = rw (ne_eqb _ _ e)
+  first_kept e = rw (ne_eqb _ _ e)
 
-  pub first-length : length (with_first firsts v code) ≡ length firsts
+  pub first_length : length (with_first firsts v code) ≡ length firsts
   unfolding with_first
-  first-length = go (eqb (get_or firsts v 0) 0)
+  first_length = go (eqb (get_or firsts v 0) 0)
     where
       go : (t : Bool) → length (cond t (set firsts v code) firsts) ≡ length firsts
       go true = length-set firsts v code
@@ -103,8 +103,8 @@ module _ (firsts : List ℕ) (v code : ℕ) where
 
 noted-length : (s : Sort) (v begun : ℕ) (firsts : List ℕ) → length (noted s v begun firsts) ≡ length firsts
 unfolding noted
-noted-length (Sort.Statement (StatementSort.Assign kind)) v begun firsts = first-length firsts v _
-noted-length (Sort.Statement (StatementSort.AssignBit kind)) v begun firsts = first-length firsts v _
+noted-length (Sort.Statement (StatementSort.Assign kind)) v begun firsts = first_length firsts v _
+noted-length (Sort.Statement (StatementSort.AssignBit kind)) v begun firsts = first_length firsts v _
 noted-length (Sort.Statement StatementSort.If) v begun firsts = refl
 noted-length (Sort.Statement StatementSort.Case) v begun firsts = refl
 noted-length Sort.Module v begun firsts = refl
@@ -119,59 +119,59 @@ noted-length Sort.Netlist v begun firsts = refl
 noted-length Sort.Unknown v begun firsts = refl
 
 -- a step goes at least over the header, and at most over the field
-step-within : (s : Sort) (n : ℕ) → (3 ≤ step_over s n) × (step_over s n ≤ n + 3)
+step_within : (s : Sort) (n : ℕ) → (3 ≤ step_over s n) × (step_over s n ≤ n + 3)
 unfolding step_over
-step-within (Sort.Statement (StatementSort.Assign kind)) n = (omega arith, omega arith)
-step-within (Sort.Statement (StatementSort.AssignBit kind)) n = (omega arith, omega arith)
-step-within (Sort.Statement StatementSort.If) n = (omega arith, omega arith)
-step-within (Sort.Statement StatementSort.Case) n = (omega arith, omega arith)
-step-within Sort.Module n = (omega arith, omega arith)
-step-within (Sort.Declaration d) n = (omega arith, omega arith)
-step-within Sort.Process n = (omega arith, omega arith)
-step-within Sort.Item n = (omega arith, omega arith)
-step-within Sort.Block n = (omega arith, omega arith)
-step-within (Sort.Expression e) n = (omega arith, omega arith)
-step-within (Sort.Cell c) n = (omega arith, omega arith)
-step-within Sort.Drive n = (omega arith, omega arith)
-step-within Sort.Netlist n = (omega arith, omega arith)
-step-within Sort.Unknown n = (omega arith, omega arith)
+step_within (Sort.Statement (StatementSort.Assign kind)) n = (omega arith, omega arith)
+step_within (Sort.Statement (StatementSort.AssignBit kind)) n = (omega arith, omega arith)
+step_within (Sort.Statement StatementSort.If) n = (omega arith, omega arith)
+step_within (Sort.Statement StatementSort.Case) n = (omega arith, omega arith)
+step_within Sort.Module n = (omega arith, omega arith)
+step_within (Sort.Declaration d) n = (omega arith, omega arith)
+step_within Sort.Process n = (omega arith, omega arith)
+step_within Sort.Item n = (omega arith, omega arith)
+step_within Sort.Block n = (omega arith, omega arith)
+step_within (Sort.Expression e) n = (omega arith, omega arith)
+step_within (Sort.Cell c) n = (omega arith, omega arith)
+step_within Sort.Drive n = (omega arith, omega arith)
+step_within Sort.Netlist n = (omega arith, omega arith)
+step_within Sort.Unknown n = (omega arith, omega arith)
 
-begun-within : (s : Sort) (begun : ℕ) → begun_after s begun ≤ begun + 1
+begun_within : (s : Sort) (begun : ℕ) → begun_after s begun ≤ begun + 1
 unfolding begun_after
-begun-within Sort.Module begun = omega arith
-begun-within (Sort.Declaration d) begun = omega arith
-begun-within Sort.Process begun = omega arith
-begun-within (Sort.Statement s) begun = omega arith
-begun-within Sort.Item begun = omega arith
-begun-within Sort.Block begun = omega arith
-begun-within (Sort.Expression e) begun = omega arith
-begun-within (Sort.Cell c) begun = omega arith
-begun-within Sort.Drive begun = omega arith
-begun-within Sort.Netlist begun = omega arith
-begun-within Sort.Unknown begun = omega arith
+begun_within Sort.Module begun = omega arith
+begun_within (Sort.Declaration d) begun = omega arith
+begun_within Sort.Process begun = omega arith
+begun_within (Sort.Statement s) begun = omega arith
+begun_within Sort.Item begun = omega arith
+begun_within Sort.Block begun = omega arith
+begun_within (Sort.Expression e) begun = omega arith
+begun_within (Sort.Cell c) begun = omega arith
+begun_within Sort.Drive begun = omega arith
+begun_within Sort.Netlist begun = omega arith
+begun_within Sort.Unknown begun = omega arith
 
 -- the table after a list of bytes, by what stands at its front
 
 -- passing over some bytes is dropping them
-survey-skip : (n begun : ℕ) (l firsts : List ℕ) → survey_from n begun l firsts ≡ survey_from 0 begun (drop n l) firsts
+survey_skip : (n begun : ℕ) (l firsts : List ℕ) → survey_from n begun l firsts ≡ survey_from 0 begun (drop n l) firsts
 unfolding survey_from
-survey-skip zero begun [] firsts = refl
-survey-skip (suc n) begun [] firsts = refl
-survey-skip zero begun (x ∷ l) firsts = refl
-survey-skip (suc n) begun (x ∷ l) firsts = survey-skip n begun l firsts
+survey_skip zero begun [] firsts = refl
+survey_skip (suc n) begun [] firsts = refl
+survey_skip zero begun (x ∷ l) firsts = refl
+survey_skip (suc n) begun (x ∷ l) firsts = survey_skip n begun l firsts
 
-survey-end : (begun : ℕ) (l firsts : List ℕ) (x : ℕ) → open_of 0 0 l ≡ Opened.Refused x → survey_from 0 begun l firsts ≡ firsts
+survey_end : (begun : ℕ) (l firsts : List ℕ) (x : ℕ) → open_of 0 0 l ≡ Opened.Refused x → survey_from 0 begun l firsts ≡ firsts
 unfolding survey_from
-survey-end begun [] firsts x e = refl
-survey-end begun (y ∷ l) firsts x e = rw e
+survey_end begun [] firsts x e = refl
+survey_end begun (y ∷ l) firsts x e = rw e
 
-pub survey-field : (begun : ℕ) (l firsts : List ℕ) {s : Sort} {n : ℕ} → Whole l s n →
+pub survey_field : (begun : ℕ) (l firsts : List ℕ) {s : Sort} {n : ℕ} → Whole l s n →
     survey_from 0 begun l firsts ≡ survey_from 0 (begun_after s begun) (drop (step_over s n) l) (noted s (get_or l 3 0) begun firsts)
 unfolding survey_from
-survey-field begun [] firsts w = absurd (omega (arith, w.within))
-survey-field begun (x ∷ l) firsts {s} {n} w =
-    let over : step_over s n ≡ suc (step_over s n - 1) = omega (arith, (step-within s n).0) in
-    rw (whole_open 0 0 (x ∷ l) w, survey-skip (step_over s n - 1) (begun_after s begun) l (noted s (get_or l 2 0) begun firsts))
+survey_field begun [] firsts w = absurd (omega (arith, w.within))
+survey_field begun (x ∷ l) firsts {s} {n} w =
+    let over : step_over s n ≡ suc (step_over s n - 1) = omega (arith, (step_within s n).0) in
+    rw (whole_open 0 0 (x ∷ l) w, survey_skip (step_over s n - 1) (begun_after s begun) l (noted s (get_or l 2 0) begun firsts))
     (ap (λ (m : ℕ). survey_from 0 (begun_after s begun) (drop m (x ∷ l)) (noted s (get_or l 2 0) begun firsts)) (sym over))
 
 -- one turn of the loop, which has come to the index `at`
@@ -179,29 +179,29 @@ module _ (list : List ℕ) (at : ℕ) (opened : Opened) (found : opened ≡ open
   here : (x : Opened) → opened ≡ x → open_of 0 0 (drop at list) ≡ x
   here x e = sym (rw rest at found) ∙ e
 
-  pub turn-ended : (begun : ℕ) (firsts : List ℕ) {whole : List ℕ} → survey_from 0 begun (drop at list) firsts ≡ whole →
+  pub turn_ended : (begun : ℕ) (firsts : List ℕ) {whole : List ℕ} → survey_from 0 begun (drop at list) firsts ≡ whole →
       (x : ℕ) → opened ≡ Opened.Refused x → firsts ≡ whole
-  turn-ended begun firsts going x e = sym (survey-end begun (drop at list) firsts x (here _ e)) ∙ going
+  turn_ended begun firsts going x e = sym (survey_end begun (drop at list) firsts x (here _ e)) ∙ going
 
   module _ (s : Sort) (n : ℕ) (is : opened ≡ Opened.Field s n) where
     stands : Whole (drop at list) s n
-    stands = open-whole 0 0 (drop at list) (here _ is)
+    stands = open_whole 0 0 (drop at list) (here _ is)
 
-    pub field-within : at + 3 + n ≤ length list
-    field-within = omega (arith, stands.within, length-drop at list)
+    pub field_within : at + 3 + n ≤ length list
+    field_within = omega (arith, stands.within, length-drop at list)
 
-    pub turn-within : (step : ℕ) → step ≡ step_over s n → (at + 3 ≤ at + step) × (at + step ≤ length list)
-    turn-within step e = (omega (arith, e, (step-within s n).0), omega (arith, e, (step-within s n).1, field-within))
+    pub turn_within : (step : ℕ) → step ≡ step_over s n → (at + 3 ≤ at + step) × (at + step ≤ length list)
+    turn_within step e = (omega (arith, e, (step_within s n).0), omega (arith, e, (step_within s n).1, field_within))
 
-    pub turn-begun : (begun begun' step : ℕ) → begun ≤ at → begun' ≡ begun_after s begun → step ≡ step_over s n → begun' ≤ at + step
-    turn-begun begun begun' step h e f = omega (arith, h, e, begun-within s begun, f, (step-within s n).0)
+    pub turn_begun : (begun begun' step : ℕ) → begun ≤ at → begun' ≡ begun_after s begun → step ≡ step_over s n → begun' ≤ at + step
+    turn_begun begun begun' step h e f = omega (arith, h, e, begun_within s begun, f, (step_within s n).0)
 
-    pub turn-noted : (begun : ℕ) (firsts : List ℕ) {whole : List ℕ} → survey_from 0 begun (drop at list) firsts ≡ whole →
+    pub turn_noted : (begun : ℕ) (firsts : List ℕ) {whole : List ℕ} → survey_from 0 begun (drop at list) firsts ≡ whole →
         (v : ℕ) → v ≡ get_or list (at + 3) 0 → (firsts' : List ℕ) → firsts' ≡ noted s v begun firsts → (begun' : ℕ) → begun' ≡ begun_after s begun →
         (step : ℕ) → step ≡ step_over s n → survey_from 0 begun' (drop (at + step) list) firsts' ≡ whole
-    turn-noted begun firsts going v ve firsts' fe begun' be step se =
-        rw (fe, ve, be, se, ← drop-drop (step_over s n) at list, ← get_or-drop at list 3 0) (sym (survey-field begun (drop at list) firsts stands) ∙ going)
+    turn_noted begun firsts going v ve firsts' fe begun' be step se =
+        rw (fe, ve, be, se, ← drop-drop (step_over s n) at list, ← get_or-drop at list 3 0) (sym (survey_field begun (drop at list) firsts stands) ∙ going)
 
 -- the table keeps its length
-pub turn-length : (s : Sort) (v begun : ℕ) (firsts firsts' : List ℕ) → firsts' ≡ noted s v begun firsts → length firsts' ≡ length firsts
-turn-length s v begun firsts firsts' e = ap length e ∙ noted-length s v begun firsts
+pub turn_length : (s : Sort) (v begun : ℕ) (firsts firsts' : List ℕ) → firsts' ≡ noted s v begun firsts → length firsts' ≡ length firsts
+turn_length s v begun firsts firsts' e = ap length e ∙ noted-length s v begun firsts

@@ -17,18 +17,18 @@ use Rattle.verilog_check.specs.Tables.{variables_of}
 use Rattle.verilog_check.specs.Judged.{judged}
 
 -- variables of the same widths give an expression the same width
-width-by-widths : (cs ds : List Declaration) → map width_of cs ≡ map width_of ds → (e : Expression) → expression_width cs e ≡ expression_width ds e
+width_by_widths : (cs ds : List Declaration) → map width_of cs ≡ map width_of ds → (e : Expression) → expression_width cs e ≡ expression_width ds e
 unfolding expression_width
-width-by-widths cs ds same (constant w v) = refl
-width-by-widths cs ds same (variable v) = ap (λ (l : List ℕ). get_or l v 0) same
-width-by-widths cs ds same (fixed_bit v k) = refl
-width-by-widths cs ds same (chosen_bit v e) = refl
-width-by-widths cs ds same (one op a) = ap (one_width op) (width-by-widths cs ds same a)
-width-by-widths cs ds same (two op a b) = ap (two_width op) (width-by-widths cs ds same a)
+width_by_widths cs ds same (constant w v) = refl
+width_by_widths cs ds same (variable v) = ap (λ (l : List ℕ). get_or l v 0) same
+width_by_widths cs ds same (fixed_bit v k) = refl
+width_by_widths cs ds same (chosen_bit v e) = refl
+width_by_widths cs ds same (one op a) = ap (one_width op) (width_by_widths cs ds same a)
+width_by_widths cs ds same (two op a b) = ap (two_width op) (width_by_widths cs ds same a)
 
-variables-widths : (l : List ℕ) → map width_of (variables_of l) ≡ l
-variables-widths [] = refl
-variables-widths (w ∷ l) = ap (λ (k : List ℕ). w ∷ k) (variables-widths l)
+variables_widths : (l : List ℕ) → map width_of (variables_of l) ≡ l
+variables_widths [] = refl
+variables_widths (w ∷ l) = ap (λ (k : List ℕ). w ∷ k) (variables_widths l)
 
 -- what is no register is marked 0
 unmarked : (ds : List Declaration) (v : ℕ) → not (register_at ds v) ≡ eqb (get_or (map (λ d. register_mark (sort_of_declaration d)) ds) v 0) 0
@@ -40,10 +40,10 @@ unmarked (d ∷ ds) (suc v) = unmarked ds v
 -- 7 and 8 ask of the declarations for their widths alone
 module _ (ds cs : List Declaration) (same : map width_of ds ≡ map width_of cs) where
   abbrev wide : (e : Expression) → expression_width ds e ≡ expression_width cs e
-  wide = width-by-widths ds cs same
+  wide = width_by_widths ds cs same
 
-  abbrev wide-variable : (v : ℕ) → variable_width ds v ≡ variable_width cs v
-  wide-variable v = ap (λ (l : List ℕ). get_or l v 0) same
+  abbrev wide_variable : (v : ℕ) → variable_width ds v ≡ variable_width cs v
+  wide_variable v = ap (λ (l : List ℕ). get_or l v 0) same
 
   operands_same : (e : Expression) → operands_differ ds e ≡ operands_differ cs e
   operands_same (constant w v) = refl
@@ -53,52 +53,52 @@ module _ (ds cs : List Declaration) (same : map width_of ds ≡ map width_of cs)
   operands_same (one op a) = refl
   operands_same (two op a b) = ap₂ (λ (x y : ℕ). not (eqb x y)) (wide a) (wide b)
 
-  statement-same : (s : Statement) → statement_differs ds s ≡ statement_differs cs s
-  statement-same (assign kind v e) = ap₂ (λ (x y : ℕ). not (eqb x y)) (wide e) (wide-variable v)
-  statement-same (assign_bit kind v k e) = ap (λ (x : ℕ). not (eqb x 1)) (wide e)
-  statement-same (if_else c a b) = ap (λ (x : ℕ). not (eqb x 1)) (wide c)
-  statement-same (case e items) = refl
+  statement_same : (s : Statement) → statement_differs ds s ≡ statement_differs cs s
+  statement_same (assign kind v e) = ap₂ (λ (x y : ℕ). not (eqb x y)) (wide e) (wide_variable v)
+  statement_same (assign_bit kind v k e) = ap (λ (x : ℕ). not (eqb x 1)) (wide e)
+  statement_same (if_else c a b) = ap (λ (x : ℕ). not (eqb x 1)) (wide c)
+  statement_same (case e items) = refl
 
   read_same : (e : Expression) → read_outside ds e ≡ read_outside cs e
   read_same (constant w v) = refl
   read_same (variable v) = refl
-  read_same (fixed_bit v k) = ap (λ (x : ℕ). leb x k) (wide-variable v)
-  read_same (chosen_bit v e) = ap₂ (λ (x y : ℕ). not (index_within x y)) (wide e) (wide-variable v)
+  read_same (fixed_bit v k) = ap (λ (x : ℕ). leb x k) (wide_variable v)
+  read_same (chosen_bit v e) = ap₂ (λ (x y : ℕ). not (index_within x y)) (wide e) (wide_variable v)
   read_same (one op a) = refl
   read_same (two op a b) = refl
 
   write_same : (s : Statement) → write_outside ds s ≡ write_outside cs s
   write_same (assign kind v e) = refl
-  write_same (assign_bit kind v k e) = ap (λ (x : ℕ). leb x k) (wide-variable v)
+  write_same (assign_bit kind v k e) = ap (λ (x : ℕ). leb x k) (wide_variable v)
   write_same (if_else c a b) = refl
   write_same (case e items) = refl
 
 -- rules 6 to 8, whose tests by tables ask for the declarations alone
 pub data OfDeclarations : Rule → Type 0 where
-  of-reference : OfDeclarations Rule.Reference
-  of-widths : OfDeclarations Rule.Widths
-  of-bit-number : OfDeclarations Rule.BitNumber
+  of_reference : OfDeclarations Rule.Reference
+  of_widths : OfDeclarations Rule.Widths
+  of_bit_number : OfDeclarations Rule.BitNumber
 
-pub no-declaration : {rule : Rule} → OfDeclarations rule → (earlier : List Declaration) (d : Declaration) → declaration_breaks rule earlier d ≡ false
+pub no_declaration : {rule : Rule} → OfDeclarations rule → (earlier : List Declaration) (d : Declaration) → declaration_breaks rule earlier d ≡ false
 unfolding declaration_breaks
-no-declaration of-reference earlier d = refl
-no-declaration of-widths earlier d = refl
-no-declaration of-bit-number earlier d = refl
+no_declaration of_reference earlier d = refl
+no_declaration of_widths earlier d = refl
+no_declaration of_bit_number earlier d = refl
 
 module _ (ds : List Declaration) (widths marks firsts : List ℕ) (sized : widths ≡ map width_of ds)
     (marked : marks ≡ map (λ d. register_mark (sort_of_declaration d)) ds) where
   table_same : map width_of ds ≡ map width_of (variables_of widths)
-  table_same = sym sized ∙ sym (variables-widths widths)
+  table_same = sym sized ∙ sym (variables_widths widths)
 
-  pub test-same : {rule : Rule} → OfDeclarations rule → (all earlier : List Node) (n : Node) → breaks ds all rule earlier n ≡ judged widths marks firsts rule n
+  pub test_same : {rule : Rule} → OfDeclarations rule → (all earlier : List Node) (n : Node) → breaks ds all rule earlier n ≡ judged widths marks firsts rule n
   unfolding breaks judged
-  test-same of-reference all earlier n =
+  test_same of_reference all earlier n =
       ap₂ (λ (reads : ℕ → Bool) (writes : Kind → ℕ → Bool). by_field (λ d. false) false (reads_by reads) (assigns_by writes) (λ e w. false) n.what)
       (fun_ext (λ v. ap (λ (k : ℕ). leb k v) (sym (ap length sized ∙ length-map ds width_of))))
       (fun_ext (λ kind. fun_ext (λ v. unmarked ds v ∙ ap (λ (l : List ℕ). eqb (get_or l v 0) 0) (sym marked))))
-  test-same of-widths all earlier n = λ i.
-      by_field (λ d. false) false (λ e. operands_same ds (variables_of widths) table_same e i) (λ s. statement-same ds (variables_of widths) table_same s i)
+  test_same of_widths all earlier n = λ i.
+      by_field (λ d. false) false (λ e. operands_same ds (variables_of widths) table_same e i) (λ s. statement_same ds (variables_of widths) table_same s i)
       (λ e w. not (eqb w (wide ds (variables_of widths) table_same e i))) n.what
-  test-same of-bit-number all earlier n =
+  test_same of_bit_number all earlier n =
       ap₂ (λ (reads : Expression → Bool) (writes : Statement → Bool). by_field (λ d. false) false reads writes (λ e w. false) n.what)
       (fun_ext (read_same ds (variables_of widths) table_same)) (fun_ext (write_same ds (variables_of widths) table_same))

@@ -17,9 +17,9 @@ use Rattle.tagged.specs.Rows.{row_bytes, row_numbers, row_answer, all_fit}
 use Rattle.tagged.specs.Runs.{row_left}
 use Rattle.tagged.specs.declared.declarations.VariableTable.{VariableTable}
 use Rattle.tagged.specs.declared.answers.Answer.TheVariants as Answer
-use Rattle.tagged.proofs.WriteLaws.{sets-all}
-use Rattle.tagged.proofs.RowLaws.{bytes-length, fits-length, numbers-front, RowAccepted, row-accepted}
-use Rattle.tagged.proofs.TableLaws.{widths-all}
+use Rattle.tagged.proofs.WriteLaws.{sets_all}
+use Rattle.tagged.proofs.RowLaws.{bytes_length, fits_length, numbers_front, RowAccepted, row_accepted}
+use Rattle.tagged.proofs.TableLaws.{widths_all}
 use Rattle.verilog.specs.Tree.{Module}
 use Rattle.verilog.specs.Form.{process_bytes}
 use Rattle.verilog.specs.Fits.{FitsModule, processes_depth}
@@ -28,19 +28,19 @@ use Rattle.verilog.specs.Answer.{tree_answer, module_answer}
 use Rattle.verilog.specs.Cycle.{State, delays_any, settled, module_cycle}
 use Rattle.verilog.specs.Run.{file_widths, cycle_of}
 use Rattle.verilog.proofs.Typed.{TypedModule}
-use Rattle.verilog.proofs.FitLaws.{fits-of-test, test-of-fits}
-use Rattle.verilog.proofs.NeverStops.{StateFits, typed-all-run, settled-fits}
-use Rattle.verilog.proofs.AcceptedTyped.{accepted-typed}
-use Rattle.verilog.proofs.AcceptedModule.{accepted-tree}
+use Rattle.verilog.proofs.FitLaws.{fits_of_test, test_of_fits}
+use Rattle.verilog.proofs.NeverStops.{StateFits, typed_all_run, settled_fits}
+use Rattle.verilog.proofs.AcceptedTyped.{accepted_typed}
+use Rattle.verilog.proofs.AcceptedModule.{accepted_tree}
 use Rattle.verilog_check.specs.Survey.{survey_from}
 use Rattle.verilog_check.proofs.Firsts.{first_in}
 use Rattle.verilog_check.proofs.RulesByTables.{process_fields}
-use Rattle.verilog_check.proofs.Delayed.{delayed-by-first}
-use Rattle.verilog_check.proofs.TreeAnswers.{tree-fits, processes-deep, list-is, list-long, firsts-told}
+use Rattle.verilog_check.proofs.Delayed.{delayed_by_first}
+use Rattle.verilog_check.proofs.TreeAnswers.{tree_fits, processes_deep, list_is, list_long, firsts_told}
 use Rattle.verilog_run.specs.Execution.{state_of, run_processes, delayed_by, settled_state}
-use Rattle.verilog_check.proofs.AcceptedFile.{one-kind, length-accepted, form-passed, few-variables, payload-declared, variables-told}
-use Rattle.verilog_run.proofs.ExecutionLaws.{processes-run}
-use Rattle.verilog_run.proofs.SettledLaws.{settled-agree}
+use Rattle.verilog_check.proofs.AcceptedFile.{one_kind, length_accepted, form_passed, few_variables, payload_declared, variables_told}
+use Rattle.verilog_run.proofs.ExecutionLaws.{processes_run}
+use Rattle.verilog_run.proofs.SettledLaws.{settled_agree}
 
 -- the cycle of a tree that is accepted, from a row that fits, by the bytes of its processes and a table of first assignments
 module _ (m : Module) (accepted : tree_answer 3 m ≡ Answer.Accepted) (few : length m.declarations ≤ most_variables) (fits : FitsModule m)
@@ -51,87 +51,87 @@ module _ (m : Module) (accepted : tree_answer 3 m ≡ Answer.Accepted) (few : le
   widths = map width_of m.declarations
 
   typed : TypedModule m
-  typed = accepted-typed 3 m accepted
+  typed = accepted_typed 3 m accepted
 
   begun : StateFits m.declarations (state_of row row)
-  begun = record { current = fits-of-test widths row fit; pending = fits-of-test widths row fit }
+  begun = record { current = fits_of_test widths row fit; pending = fits_of_test widths row fit }
 
   abbrev ran : State
-  ran = (typed-all-run typed.processes begun).leaves.left
+  ran = (typed_all_run typed.processes begun).leaves.left
 
-  code-ran : run_processes widths (all_bytes_of process_bytes m.processes) (state_of row row) ≡ ran
-  code-ran =
-      processes-run m.declarations m.processes typed.processes typed.widths fits.processes deep (omega arith) (state_of row row) begun ran
-      (typed-all-run typed.processes begun).leaves.runs
+  code_ran : run_processes widths (all_bytes_of process_bytes m.processes) (state_of row row) ≡ ran
+  code_ran =
+      processes_run m.declarations m.processes typed.processes typed.widths fits.processes deep (omega arith) (state_of row row) begun ran
+      (typed_all_run typed.processes begun).leaves.runs
 
   current-length : length ran.current ≡ length m.declarations
-  current-length = fits-length widths ran.current (test-of-fits (typed-all-run typed.processes begun).leaves.fits.current) ∙ length-map m.declarations width_of
+  current-length = fits_length widths ran.current (test_of_fits (typed_all_run typed.processes begun).leaves.fits.current) ∙ length-map m.declarations width_of
 
   settled_same : settled (delays_any m.processes) 0 ran.current ran.pending ≡ settled_state firsts ran
   settled_same =
-      settled-agree (delays_any m.processes) (delayed_by firsts) ran.current ran.pending
-      (λ v h. delayed-by-first 3 m firsts told (one-kind m accepted) v (omega (arith, current-length)))
+      settled_agree (delays_any m.processes) (delayed_by firsts) ran.current ran.pending
+      (λ v h. delayed_by_first 3 m firsts told (one_kind m accepted) v (omega (arith, current-length)))
 
-  pub cycle-by-code : module_cycle m row ≡ got (settled_state firsts (run_processes widths (all_bytes_of process_bytes m.processes) (state_of row row)))
+  pub cycle_by_code : module_cycle m row ≡ got (settled_state firsts (run_processes widths (all_bytes_of process_bytes m.processes) (state_of row row)))
   unfolding module_cycle
-  cycle-by-code =
-      let counted : length row ≡ length m.declarations = fits-length widths row fit ∙ length-map m.declarations width_of in
-      rw (eq-eqb (length row) (length m.declarations) counted, (typed-all-run typed.processes begun).leaves.runs)
-      (ap got (settled_same ∙ ap (settled_state firsts) (sym code-ran)))
+  cycle_by_code =
+      let counted : length row ≡ length m.declarations = fits_length widths row fit ∙ length-map m.declarations width_of in
+      rw (eq-eqb (length row) (length m.declarations) counted, (typed_all_run typed.processes begun).leaves.runs)
+      (ap got (settled_same ∙ ap (settled_state firsts) (sym code_ran)))
 
-  pub cycle-length : length (settled_state firsts (run_processes widths (all_bytes_of process_bytes m.processes) (state_of row row))) ≡ length widths
-  cycle-length =
-      let left = (typed-all-run typed.processes begun).leaves.fits in
-      ap length (ap (settled_state firsts) code-ran ∙ sym settled_same)
-      ∙ fits-length widths (settled (delays_any m.processes) 0 ran.current ran.pending)
-      (test-of-fits (settled-fits (delays_any m.processes) 0 left.current left.pending))
+  pub cycle_length : length (settled_state firsts (run_processes widths (all_bytes_of process_bytes m.processes) (state_of row row))) ≡ length widths
+  cycle_length =
+      let left = (typed_all_run typed.processes begun).leaves.fits in
+      ap length (ap (settled_state firsts) code_ran ∙ sym settled_same)
+      ∙ fits_length widths (settled (delays_any m.processes) 0 ran.current ran.pending)
+      (test_of_fits (settled_fits (delays_any m.processes) 0 left.current left.pending))
 
 -- one cycle of a file that is accepted, from a row that fits
 module _ (file row next : List ℕ) (bytes : AllBytes file) (accepted : module_answer file ≡ Answer.Accepted)
     (rows : row_answer (file_widths file) row (length next) ≡ Answer.Accepted) (payload : List ℕ) (part : payload ≡ drop 3 file)
     (taken : ℕ) (count : taken ≡ passed_bytes (declarations_step 0 0 payload)) (list : List ℕ) (rest : list ≡ drop taken payload) where
-  pub processes-long : length list ≤ 16384
-  processes-long = omega (arith, list-long file bytes (length-accepted file accepted) (form-passed file accepted) payload part taken count list rest)
+  pub processes_long : length list ≤ 16384
+  processes_long = omega (arith, list_long file bytes (length_accepted file accepted) (form_passed file accepted) payload part taken count list rest)
 
-  processes-are : list ≡ all_bytes_of process_bytes (module_in file).processes
-  processes-are = list-is file bytes (length-accepted file accepted) (form-passed file accepted) payload part taken count list rest
+  processes_are : list ≡ all_bytes_of process_bytes (module_in file).processes
+  processes_are = list_is file bytes (length_accepted file accepted) (form_passed file accepted) payload part taken count list rest
 
   module _ (table : VariableTable) (made : table ≡ variable_table (declarations_in payload)) (zeros : List ℕ) (room : length zeros ≡ most_variables)
       (none : (v : ℕ) → get_or zeros v 0 ≡ 0) (firsts : List ℕ) (surveyed : firsts ≡ survey_from 0 0 list zeros) (numbers : List ℕ) (read : numbers ≡ row_numbers 64 row) where
     fit : RowAccepted (file_widths file) row (length next)
-    fit = row-accepted (file_widths file) row (length next) rows
+    fit = row_accepted (file_widths file) row (length next) rows
 
-    widths-are : take table.count table.widths ≡ file_widths file
-    widths-are = widths-all (declarations_in payload) table made (variables-told file accepted payload part) ∙ ap (map width_of) (payload-declared file accepted payload part)
+    widths_are : take table.count table.widths ≡ file_widths file
+    widths_are = widths_all (declarations_in payload) table made (variables_told file accepted payload part) ∙ ap (map width_of) (payload_declared file accepted payload part)
 
-    count-is : table.count ≡ length (file_widths file)
+    count_is : table.count ≡ length (file_widths file)
     unfolding variable_table
-    count-is =
-        ap (λ (t : VariableTable). t.count) made ∙ ap length (payload-declared file accepted payload part) ∙ sym (length-map (module_in file).declarations width_of)
+    count_is =
+        ap (λ (t : VariableTable). t.count) made ∙ ap length (payload_declared file accepted payload part) ∙ sym (length-map (module_in file).declarations width_of)
 
     begins : take table.count numbers ≡ row_numbers (length (file_widths file)) row
     begins =
-        ap₂ (λ (k : ℕ) (l : List ℕ). take k l) count-is read
-        ∙ numbers-front (length (file_widths file)) 64 row (omega (arith, few-variables file accepted, length-map (module_in file).declarations width_of))
+        ap₂ (λ (k : ℕ) (l : List ℕ). take k l) count_is read
+        ∙ numbers_front (length (file_widths file)) 64 row (omega (arith, few_variables file accepted, length-map (module_in file).declarations width_of))
 
     abbrev after : List ℕ
     after = settled_state firsts (run_processes (file_widths file) (all_bytes_of process_bytes (module_in file).processes)
         (state_of (row_numbers (length (file_widths file)) row) (row_numbers (length (file_widths file)) row)))
 
     told : (v : ℕ) → v < most_variables → get_or firsts v 0 ≡ first_in v (unplaced (process_fields 3 (module_in file)))
-    told = firsts-told file bytes (length-accepted file accepted) (form-passed file accepted) payload part taken count list rest zeros room none firsts surveyed
+    told = firsts_told file bytes (length_accepted file accepted) (form_passed file accepted) payload part taken count list rest zeros room none firsts surveyed
 
-    pub cycle-written : (left : List ℕ) →
+    pub cycle_written : (left : List ℕ) →
         left ≡ sets next 0 (row_bytes (settled_state firsts (run_processes (take table.count table.widths) list (state_of (take table.count numbers) (take table.count numbers))))) →
         left ≡ row_left Answer.Accepted (cycle_of file row) next
-    cycle-written left e =
+    cycle_written left e =
         let m = module_in file in
-        let tree = accepted-tree file accepted in
-        let fits = tree-fits file bytes (length-accepted file accepted) (form-passed file accepted) payload part in
-        let deep = processes-deep file bytes (length-accepted file accepted) (form-passed file accepted) payload part in
-        let short : length (all_bytes_of process_bytes m.processes) ≤ 16384 = omega (arith, processes-long, ap length processes-are) in
-        let few = few-variables file accepted in
-        let cycle = cycle-by-code m tree few fits deep short firsts told (row_numbers (length (file_widths file)) row) fit.fits in
-        let long = cycle-length m tree few fits deep short firsts told (row_numbers (length (file_widths file)) row) fit.fits in
-        let all : length (row_bytes after) ≡ length next = bytes-length after ∙ ap (λ (k : ℕ). 4 * k) long ∙ sym fit.next in
-        e ∙ rw (widths-are, processes-are, begins) (sets-all next (row_bytes after) all) ∙ ap (λ (o : Outcome (List ℕ)). row_left Answer.Accepted o next) (sym cycle)
+        let tree = accepted_tree file accepted in
+        let fits = tree_fits file bytes (length_accepted file accepted) (form_passed file accepted) payload part in
+        let deep = processes_deep file bytes (length_accepted file accepted) (form_passed file accepted) payload part in
+        let short : length (all_bytes_of process_bytes m.processes) ≤ 16384 = omega (arith, processes_long, ap length processes_are) in
+        let few = few_variables file accepted in
+        let cycle = cycle_by_code m tree few fits deep short firsts told (row_numbers (length (file_widths file)) row) fit.fits in
+        let long = cycle_length m tree few fits deep short firsts told (row_numbers (length (file_widths file)) row) fit.fits in
+        let all : length (row_bytes after) ≡ length next = bytes_length after ∙ ap (λ (k : ℕ). 4 * k) long ∙ sym fit.next in
+        e ∙ rw (widths_are, processes_are, begins) (sets_all next (row_bytes after) all) ∙ ap (λ (o : Outcome (List ℕ)). row_left Answer.Accepted o next) (sym cycle)

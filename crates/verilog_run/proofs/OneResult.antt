@@ -8,6 +8,6 @@ use Rattle.tagged.specs.declared.answers.Answer.{Answer}
 use Rattle.tagged.proofs.AnswerLaws.{coincide}
 use Rattle.verilog.specs.Run.{run_answer, run_leaves}
 
-pub run-once : (file row next : List ℕ) {a b : Answer} {left held : List ℕ} → Promise (run_answer file row (length next)) (run_leaves file row next) a left →
+pub run_once : (file row next : List ℕ) {a b : Answer} {left held : List ℕ} → Promise (run_answer file row (length next)) (run_leaves file row next) a left →
     Promise (run_answer file row (length next)) (run_leaves file row next) b held → (a ≡ b) × (left ≡ held)
-run-once file row next p q = coincide p q
+run_once file row next p q = coincide p q

@@ -14,21 +14,21 @@ use Rattle.tagged.specs.Declarations.{Declaration, width_of}
 use Rattle.tagged.specs.declared.sorts.Kind.{Kind}
 use Rattle.tagged.specs.declared.sorts.StatementSort.TheVariants as StatementSort
 use Rattle.tagged.specs.declared.sorts.Sort.TheVariants as Sort
-use Rattle.tagged.proofs.SortLaws.{is-itself}
+use Rattle.tagged.proofs.SortLaws.{is_itself}
 use Rattle.verilog.specs.Tree.{Expression, Block}
 use Rattle.verilog.specs.Form.{expression_bytes, block_payload, block_bytes}
 use Rattle.verilog.specs.Reading.{after_front}
 use Rattle.verilog.specs.Fits.{longest_field, FitsExpression, expression_depth, statements_depth}
 use Rattle.verilog.specs.Cycle.{State, held, changed}
 use Rattle.verilog.proofs.FrontLaws.{stands_after}
-use Rattle.verilog.proofs.ExpressionBytes.{four-read, expression-stands, expression-read}
-use Rattle.verilog.proofs.WrittenFields.{front-field, constant_bytes, front-constant, after-constant}
+use Rattle.verilog.proofs.ExpressionBytes.{four_read, expression_stands, expression_read}
+use Rattle.verilog.proofs.WrittenFields.{front_field, constant_bytes, front_constant, after_constant}
 use Rattle.verilog.proofs.Typed.{Typed, WidthsFit}
-use Rattle.verilog.proofs.NeverStops.{typed-evaluates, StateFits}
+use Rattle.verilog.proofs.NeverStops.{typed_evaluates, StateFits}
 use Rattle.verilog_run.specs.declared.evaluate.Number.{Number}
 use Rattle.verilog_run.specs.Numbers.{number_in}
 use Rattle.verilog_run.specs.Execution.{run_all, front_number, assigned, assigned_bit, item_value, front_block, run_items, run_statement, run_block, run_item}
-use Rattle.verilog_run.proofs.NumberLaws.{number-computed}
+use Rattle.verilog_run.proofs.NumberLaws.{number_computed}
 
 -- the widths that the code holds
 abbrev pub widths_of : List Declaration → List ℕ
@@ -38,41 +38,41 @@ widths_of ds = map width_of ds
 module _ {ds : List Declaration} (widths : WidthsFit ds) {s : State} (f : StateFits ds s) {e : Expression} (t : Typed ds e) (fits : FitsExpression e)
     (d : ℕ) (deep : expression_depth e ≤ d) (long : length (expression_bytes e) ≤ longest_field) where
   abbrev value_number : ℕ
-  value_number = (typed-evaluates f.current t).number
+  value_number = (typed_evaluates f.current t).number
 
-  front-number : (after : List ℕ) → front_number (widths_of ds) d (expression_bytes e ++ after) s ≡ value_number
-  front-number after =
-      ap (λ (x : Expression). (number_in (widths_of ds) s.current x).number) (expression-read d e fits deep long after)
-      ∙ ap (λ (x : Number). x.number) (number-computed widths f.current t _ (typed-evaluates f.current t).runs)
+  front_number_lem : (after : List ℕ) → front_number (widths_of ds) d (expression_bytes e ++ after) s ≡ value_number
+  front_number_lem after =
+      ap (λ (x : Expression). (number_in (widths_of ds) s.current x).number) (expression_read d e fits deep long after)
+      ∙ ap (λ (x : Number). x.number) (number_computed widths f.current t _ (typed_evaluates f.current t).runs)
 
-  last-number : front_number (widths_of ds) d (expression_bytes e) s ≡ value_number
-  last-number = ap (λ (l : List ℕ). front_number (widths_of ds) d l s) (sym (append-nil (expression_bytes e))) ∙ front-number []
+  last_number : front_number (widths_of ds) d (expression_bytes e) s ≡ value_number
+  last_number = ap (λ (l : List ℕ). front_number (widths_of ds) d l s) (sym (append-nil (expression_bytes e))) ∙ front_number_lem []
 
-  after-expression : (after : List ℕ) → after_front (expression_bytes e ++ after) ≡ after
-  after-expression after = stands_after (expression-stands d e fits deep long) after
+  after_expression : (after : List ℕ) → after_front (expression_bytes e ++ after) ≡ after
+  after_expression after = stands_after (expression_stands d e fits deep long) after
 
-  pub assign-starts : (kind : Kind) (v : ℕ) → run_statement (widths_of ds) (suc d) (Sort.Statement (StatementSort.Assign kind)) (v ∷ expression_bytes e) s ≡
+  pub assign_starts : (kind : Kind) (v : ℕ) → run_statement (widths_of ds) (suc d) (Sort.Statement (StatementSort.Assign kind)) (v ∷ expression_bytes e) s ≡
       changed kind s v value_number
   unfolding run_statement assigned
-  assign-starts kind v = ap (changed kind s v) last-number
+  assign_starts kind v = ap (changed kind s v) last_number
 
-  pub assign_bit-starts : (kind : Kind) (v k : ℕ) → run_statement (widths_of ds) (suc d) (Sort.Statement (StatementSort.AssignBit kind)) (v ∷ k ∷ expression_bytes e) s ≡
+  pub assign_bit_starts : (kind : Kind) (v k : ℕ) → run_statement (widths_of ds) (suc d) (Sort.Statement (StatementSort.AssignBit kind)) (v ∷ k ∷ expression_bytes e) s ≡
       changed kind s v (put_result (held kind s v) k value_number)
   unfolding run_statement assigned_bit
-  assign_bit-starts kind v k = ap (λ (n : ℕ). changed kind s v (put_result (held kind s v) k n)) last-number
+  assign_bit_starts kind v k = ap (λ (n : ℕ). changed kind s v (put_result (held kind s v) k n)) last_number
 
-  pub if-starts : (blocks : List ℕ) → run_statement (widths_of ds) (suc d) (Sort.Statement StatementSort.If) (expression_bytes e ++ blocks) s ≡
+  pub if_starts : (blocks : List ℕ) → run_statement (widths_of ds) (suc d) (Sort.Statement StatementSort.If) (expression_bytes e ++ blocks) s ≡
       choose (eqb value_number 1) (λ _. front_block (run_block (widths_of ds) d) blocks s) (λ _. front_block (run_block (widths_of ds) d) (after_front blocks) s)
   unfolding run_statement
-  if-starts blocks =
+  if_starts blocks =
       ap₂ (λ (n : ℕ) (l : List ℕ). choose (eqb n 1) (λ _. front_block (run_block (widths_of ds) d) l s) (λ _. front_block (run_block (widths_of ds) d) (after_front l) s))
-      (front-number blocks) (after-expression blocks)
+      (front_number_lem blocks) (after_expression blocks)
 
-  pub case-starts : (items : List ℕ) → run_statement (widths_of ds) (suc d) (Sort.Statement StatementSort.Case) (expression_bytes e ++ items) s ≡
+  pub case_starts : (items : List ℕ) → run_statement (widths_of ds) (suc d) (Sort.Statement StatementSort.Case) (expression_bytes e ++ items) s ≡
       run_items (run_item (widths_of ds) d) (run_block (widths_of ds) d) value_number (fields_at 0 items) s
   unfolding run_statement
-  case-starts items =
-      ap₂ (λ (n : ℕ) (l : List ℕ). run_items (run_item (widths_of ds) d) (run_block (widths_of ds) d) n (fields_at 0 l) s) (front-number items) (after-expression items)
+  case_starts items =
+      ap₂ (λ (n : ℕ) (l : List ℕ). run_items (run_item (widths_of ds) d) (run_block (widths_of ds) d) n (fields_at 0 l) s) (front_number_lem items) (after_expression items)
 
 -- a block's field, by what is known of its statements
 module _ (widths : List ℕ) (s : State) {t : State} (b : Block) (short : length (block_payload b) < 65536) (d : ℕ) (deep : suc (statements_depth b) ≤ d)
@@ -83,19 +83,19 @@ module _ (widths : List ℕ) (s : State) {t : State} (b : Block) (short : length
     where
       go : (d : ℕ) → suc (statements_depth b) ≤ d → run_block widths d Sort.Block (block_payload b) s ≡ t
       go zero deep = absurd (omega arith)
-      go (suc d) deep = rw (is-itself Sort.Block) (known d (omega arith))
+      go (suc d) deep = rw (is_itself Sort.Block) (known d (omega arith))
 
-  pub front-block-runs : (after : List ℕ) → front_block (run_block widths d) (block_bytes b ++ after) s ≡ t
+  pub front_block_runs : (after : List ℕ) → front_block (run_block widths d) (block_bytes b ++ after) s ≡ t
   unfolding block_bytes
-  front-block-runs after = front-field Sort.Block (block_payload b) after short (λ u p. run_block widths d u p s) s ∙ block_runs
+  front_block_runs after = front_field Sort.Block (block_payload b) after short (λ u p. run_block widths d u p s) s ∙ block_runs
 
-  pub last-block-runs : front_block (run_block widths d) (block_bytes b) s ≡ t
-  last-block-runs = ap (λ (l : List ℕ). front_block (run_block widths d) l s) (sym (append-nil (block_bytes b))) ∙ front-block-runs []
+  pub last_block_runs : front_block (run_block widths d) (block_bytes b) s ≡ t
+  last_block_runs = ap (λ (l : List ℕ). front_block (run_block widths d) l s) (sym (append-nil (block_bytes b))) ∙ front_block_runs []
 
 -- an item's payload: its constant, then its block
-pub item-value : (w v : ℕ) (after : List ℕ) → v < 2 ^ 32 → item_value (constant_bytes w v ++ after) ≡ v
-item-value w v after h = front-constant w v after (λ u p. four_of (drop 1 p)) 0 ∙ four-read v h
+pub item_value_lem : (w v : ℕ) (after : List ℕ) → v < 2 ^ 32 → item_value (constant_bytes w v ++ after) ≡ v
+item_value_lem w v after h = front_constant w v after (λ u p. four_of (drop 1 p)) 0 ∙ four_read v h
 
-pub item-block : (widths : List ℕ) (d w v : ℕ) (after : List ℕ) (s : State) → run_item widths (suc d) (constant_bytes w v ++ after) s ≡ front_block (run_block widths d) after s
+pub item_block : (widths : List ℕ) (d w v : ℕ) (after : List ℕ) (s : State) → run_item widths (suc d) (constant_bytes w v ++ after) s ≡ front_block (run_block widths d) after s
 unfolding run_item
-item-block widths d w v after s = ap (λ (l : List ℕ). front_block (run_block widths d) l s) (after-constant w v after)
+item_block widths d w v after s = ap (λ (l : List ℕ). front_block (run_block widths d) l s) (after_constant w v after)

@@ -13,29 +13,29 @@ use Rattle.verilog.specs.Cycle.{settled}
 
 module _ (delayed known : ℕ → Bool) where
   -- from variable v on
-  settled-from : (v : ℕ) (current pending : List ℕ) → ((u : ℕ) → v ≤ u → u < v + length current → delayed u ≡ known u) →
+  settled_from : (v : ℕ) (current pending : List ℕ) → ((u : ℕ) → v ≤ u → u < v + length current → delayed u ≡ known u) →
       settled delayed v current pending ≡ settled known v current pending
   unfolding settled
-  settled-from v [] pending agree = refl
-  settled-from v (c ∷ current) pending agree =
+  settled_from v [] pending agree = refl
+  settled_from v (c ∷ current) pending agree =
       ap₂ (λ (t : Bool) (l : List ℕ). cond t (get_or pending 0 0) c ∷ l) (agree v (omega arith) (omega arith))
-      (settled-from (v + 1) current (drop 1 pending) (λ u h k. agree u (omega arith) (omega arith)))
+      (settled_from (v + 1) current (drop 1 pending) (λ u h k. agree u (omega arith) (omega arith)))
 
-  pub settled-agree : (current pending : List ℕ) → ((v : ℕ) → v < length current → delayed v ≡ known v) →
+  pub settled_agree : (current pending : List ℕ) → ((v : ℕ) → v < length current → delayed v ≡ known v) →
       settled delayed 0 current pending ≡ settled known 0 current pending
-  settled-agree current pending agree = settled-from 0 current pending (λ v h k. agree v (omega arith))
+  settled_agree current pending agree = settled_from 0 current pending (λ v h k. agree v (omega arith))
 
 -- one turn of the loop that settles, which has come to the index `at`, and its end
 module _ (known : ℕ → Bool) (pending : List ℕ) {whole : List ℕ} (current : List ℕ) (at : ℕ)
     (going : take at current ++ settled known at (drop at current) (drop at pending) ≡ whole) where
-  pub settled-turn : at < length current → (number : ℕ) → number ≡ cond (known at) (get_or pending at 0) (get_or current at 0) →
+  pub settled_turn : at < length current → (number : ℕ) → number ≡ cond (known at) (get_or pending at 0) (get_or current at 0) →
       take (at + 1) (set current at number) ++ settled known (at + 1) (drop (at + 1) (set current at number)) (drop (at + 1) pending) ≡ whole
   unfolding settled
-  settled-turn h number e =
+  settled_turn h number e =
       let first : drop at current ≡ get_or current at 0 ∷ drop (suc at) current = drop-cons current at 0 h in
       rw (add-one, take-suc-set current at number h, drop-set-lt (suc at) current at number (omega arith), append_assoc, e)
       (rw (first, get_or-drop, add-zero, drop-drop, add-one) at going)
 
-  pub settled-done : length current ≤ at → current ≡ whole
+  pub settled_done : length current ≤ at → current ≡ whole
   unfolding settled
-  settled-done h = rw (drop_of_length-le current h, take_all at current h, append-nil) at going
+  settled_done h = rw (drop_of_length-le current h, take_all at current h, append-nil) at going

@@ -13,10 +13,10 @@ pub one_inside : (op : OneOperand) (w a : ℕ) → w ≤ greatest_width → one_
 unfolding one_result
 one_inside op w a h = rw (le-leb w greatest_width h)
 
-pub two-inside : (op : TwoOperand) (w a b : ℕ) → w ≤ greatest_width → two_result op w a b ≡ two_number op w a b
+pub two_inside : (op : TwoOperand) (w a b : ℕ) → w ≤ greatest_width → two_result op w a b ≡ two_number op w a b
 unfolding two_result
-two-inside op w a b h = rw (le-leb w greatest_width h)
+two_inside op w a b h = rw (le-leb w greatest_width h)
 
-pub put-inside : (v k b : ℕ) → k < greatest_width → b < 2 → put_result v k b ≡ put_bit v k b
+pub put_inside : (v k b : ℕ) → k < greatest_width → b < 2 → put_result v k b ≡ put_bit v k b
 unfolding put_result
-put-inside v k b h l = rw (lt-ltb k greatest_width h, lt-ltb b 2 l)
+put_inside v k b h l = rw (lt-ltb k greatest_width h, lt-ltb b 2 l)

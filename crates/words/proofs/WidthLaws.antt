@@ -19,98 +19,98 @@ use Rattle.words.specs.declared.OneOperand.{OneOperand}
 use Rattle.words.specs.declared.OneOperand.TheVariants.{Not, Parity}
 use Rattle.words.specs.declared.TwoOperand.{TwoOperand}
 use Rattle.words.specs.declared.TwoOperand.TheVariants.{And, Or, Xor, Add, Equal}
-use Rattle.words.proofs.BitLaws.{odd-lt, put-form, put_low}
+use Rattle.words.proofs.BitLaws.{odd_lt, put_form, put_low}
 
 -- one of two numbers below a bound is below it
-cond-lt : (t : Bool) {n x y : ℕ} → x < n → y < n → cond t x y < n
-cond-lt true h l = h
-cond-lt false h l = l
+cond_lt : (t : Bool) {n x y : ℕ} → x < n → y < n → cond t x y < n
+cond_lt true h l = h
+cond_lt false h l = l
 
-pub inverted-lt : (w a : ℕ) → inverted w a < 2 ^ w
+pub inverted_lt : (w a : ℕ) → inverted w a < 2 ^ w
 unfolding inverted
-inverted-lt w a = ones_sub-lt w (a % 2 ^ w)
+inverted_lt w a = ones_sub-lt w (a % 2 ^ w)
 
 pub sum_lt : (w a b : ℕ) → sum w a b < 2 ^ w
 unfolding sum
 sum_lt w a b = mod-lt (a + b) (pow_pos w)
 
-pub same-lt : (a b : ℕ) → same a b < 2
+pub same_lt : (a b : ℕ) → same a b < 2
 unfolding same
-same-lt a b = cond-lt (eqb a b) (lit< tt) (lit< tt)
+same_lt a b = cond_lt (eqb a b) (lit< tt) (lit< tt)
 
-pub parity-lt : (v : ℕ) → parity v < 2
+pub parity_lt : (v : ℕ) → parity v < 2
 unfolding parity
-parity-lt v = odd-lt (ones_below greatest_width v)
+parity_lt v = odd_lt (ones_below greatest_width v)
 
-pub mux-lt : (w c a b : ℕ) → a < 2 ^ w → b < 2 ^ w → mux c a b < 2 ^ w
+pub mux_lt : (w c a b : ℕ) → a < 2 ^ w → b < 2 ^ w → mux c a b < 2 ^ w
 unfolding mux
-mux-lt w c a b ha hb = cond-lt (eqb c 0) hb ha
+mux_lt w c a b ha hb = cond_lt (eqb c 0) hb ha
 
-pub put_bit-lt : (w v k b : ℕ) → v < 2 ^ w → k < w → b < 2 → put_bit v k b < 2 ^ w
-put_bit-lt w v k b hv hk hb =
+pub put_bit_lt : (w v k b : ℕ) → v < 2 ^ w → k < w → b < 2 → put_bit v k b < 2 ^ w
+put_bit_lt w v k b hv hk hb =
     let j : ℕ = w - suc k in
     let e : j + (1 + k) ≡ w = omega arith in
-    rw (put-form v k b, ← e, pow-add 2 j (1 + k)) (digits_lt (shr_lt j (1 + k) (rw e hv)) (put_low v k b hb))
+    rw (put_form v k b, ← e, pow-add 2 j (1 + k)) (digits_lt (shr_lt j (1 + k) (rw e hv)) (put_low v k b hb))
 
 -- the results of the operators, and their widths
-pub one-lt : (op : OneOperand) (w a : ℕ) → one_number op w a < 2 ^ one_width op w
+pub one_lt : (op : OneOperand) (w a : ℕ) → one_number op w a < 2 ^ one_width op w
 unfolding one_number one_width
-one-lt Not w a = inverted-lt w a
-one-lt Parity w a = parity-lt a
+one_lt Not w a = inverted_lt w a
+one_lt Parity w a = parity_lt a
 
-pub two-lt : (op : TwoOperand) (w a b : ℕ) → a < 2 ^ w → b < 2 ^ w → two_number op w a b < 2 ^ two_width op w
+pub two_lt : (op : TwoOperand) (w a b : ℕ) → a < 2 ^ w → b < 2 ^ w → two_number op w a b < 2 ^ two_width op w
 unfolding two_number two_width
-two-lt And w a b ha hb = and_lt w a b ha hb
-two-lt Or w a b ha hb = or_lt w a b ha hb
-two-lt Xor w a b ha hb = xor_lt w a b ha hb
-two-lt Add w a b ha hb = sum_lt w a b
-two-lt Equal w a b ha hb = same-lt a b
+two_lt And w a b ha hb = and_lt w a b ha hb
+two_lt Or w a b ha hb = or_lt w a b ha hb
+two_lt Xor w a b ha hb = xor_lt w a b ha hb
+two_lt Add w a b ha hb = sum_lt w a b
+two_lt Equal w a b ha hb = same_lt a b
 
 pub one_width_lem : (op : OneOperand) (w : ℕ) → is_width w ≡ true → is_width (one_width op w) ≡ true
 unfolding one_width
 one_width_lem Not w h = h
 one_width_lem Parity w h = refl
 
-pub two-width : (op : TwoOperand) (w : ℕ) → is_width w ≡ true → is_width (two_width op w) ≡ true
+pub two_width_lem : (op : TwoOperand) (w : ℕ) → is_width w ≡ true → is_width (two_width op w) ≡ true
 unfolding two_width
-two-width And w h = h
-two-width Or w h = h
-two-width Xor w h = h
-two-width Add w h = h
-two-width Equal w h = refl
+two_width_lem And w h = h
+two_width_lem Or w h = h
+two_width_lem Xor w h = h
+two_width_lem Add w h = h
+two_width_lem Equal w h = refl
 
 -- a number of w bits turned round
-pub inverted-fits : (w a : ℕ) → a < 2 ^ w → inverted w a ≡ (2 ^ w - 1) - a
+pub inverted_fits : (w a : ℕ) → a < 2 ^ w → inverted w a ≡ (2 ^ w - 1) - a
 unfolding inverted
-inverted-fits w a h = ap (λ (x : ℕ). (2 ^ w - 1) - x) (mod-eq_of_lt h)
+inverted_fits w a h = ap (λ (x : ℕ). (2 ^ w - 1) - x) (mod-eq_of_lt h)
 
 -- the choice by a bit
-pub mux-one : (a b : ℕ) → mux 1 a b ≡ a
+pub mux_one : (a b : ℕ) → mux 1 a b ≡ a
 unfolding mux
-mux-one a b = refl
+mux_one a b = refl
 
-pub mux-zero : (a b : ℕ) → mux 0 a b ≡ b
+pub mux_zero : (a b : ℕ) → mux 0 a b ≡ b
 unfolding mux
-mux-zero a b = refl
+mux_zero a b = refl
 
 -- parity: the language's count of ones is the sum of the bits
-ones-digit : (b : ℕ) → b < 2 → ones b ≡ b
+ones_digit : (b : ℕ) → b < 2 → ones b ≡ b
 unfolding ones
-ones-digit zero h = refl
-ones-digit (suc zero) h = refl
-ones-digit (suc (suc b)) h = absurd (not-suc-le-zero (le_of_suc-le-suc (le_of_suc-le-suc h)))
+ones_digit zero h = refl
+ones_digit (suc zero) h = refl
+ones_digit (suc (suc b)) h = absurd (not-suc-le-zero (le_of_suc-le-suc (le_of_suc-le-suc h)))
 
 ones_below_lem : (w v : ℕ) → ones (v % 2 ^ w) ≡ ones_below w v
 unfolding ones_below bit
-ones_below_lem zero v = ap ones (mod-one v) ∙ ones-digit zero (lit< tt)
+ones_below_lem zero v = ap ones (mod-one v) ∙ ones_digit zero (lit< tt)
 ones_below_lem (suc w) v =
     ap (λ (n : ℕ). ones (v % 2 ^ n)) (sym (one-add w)) ∙ ap ones (mod-pow-add v 1 w)
     ∙ ones_cat w (v / 2 ^ w % 2) (v % 2 ^ w) (mod-lt v (pow_pos w))
-    ∙ ap₂ (λ (x y : ℕ). x + y) (ones-digit (v / 2 ^ w % 2) (odd-lt (v / 2 ^ w))) (ones_below_lem w v)
+    ∙ ap₂ (λ (x y : ℕ). x + y) (ones_digit (v / 2 ^ w % 2) (odd_lt (v / 2 ^ w))) (ones_below_lem w v)
 
-pub ones-parity : (w v : ℕ) → v < 2 ^ w → ones v % 2 ≡ ones_below w v % 2
-ones-parity w v h = ap (λ (x : ℕ). x % 2) (ap ones (sym (mod-eq_of_lt h)) ∙ ones_below_lem w v)
+pub ones_parity : (w v : ℕ) → v < 2 ^ w → ones v % 2 ≡ ones_below w v % 2
+ones_parity w v h = ap (λ (x : ℕ). x % 2) (ap ones (sym (mod-eq_of_lt h)) ∙ ones_below_lem w v)
 
-pub parity-ones : (w v : ℕ) → w ≤ greatest_width → v < 2 ^ w → parity v ≡ ones_below w v % 2
+pub parity_ones : (w v : ℕ) → w ≤ greatest_width → v < 2 ^ w → parity v ≡ ones_below w v % 2
 unfolding parity
-parity-ones w v l h = sym (ones-parity greatest_width v (lt_of_lt_of_le h (pow_mono l))) ∙ ones-parity w v h
+parity_ones w v l h = sym (ones_parity greatest_width v (lt_of_lt_of_le h (pow_mono l))) ∙ ones_parity w v h

@@ -2,7 +2,7 @@
 use mathlib.Core.Path.{sym, ◌∙◌}
 use native.Mathlib.Omega.{arith}
 use Rattle.tagged.specs.Limits.{longest_netlist}
-use Rattle.tagged.proofs.FileLaws.{file-long, form-whole, length-refused, form-refused, others-answered}
+use Rattle.tagged.proofs.FileLaws.{file_long, form_whole, length_refused, form_refused, others_answered}
 use Rattle.netlist.specs.Form.{netlist_body, netlist_form}
 use Rattle.netlist.specs.Reading.{netlist_in}
 use Rattle.netlist.specs.Answer.{lists_answer, netlist_answer}
@@ -12,7 +12,7 @@ pub netlist_form-requires : goal.netlist_form-requires
 netlist_form-requires c =
     let args = c.args in
     let netlist-file = c.netlist_file in
-    omega (arith, file-long longest_netlist args.file.now netlist-file.result netlist-file.ensures c.in-Accepted.is)
+    omega (arith, file_long longest_netlist args.file.now netlist-file.result netlist-file.ensures c.in-Accepted.is)
 
 pub lists_answer-requires : goal.lists_answer-requires
 unfolding netlist_form
@@ -21,7 +21,7 @@ lists_answer-requires c =
     let args = c.args in
     let netlist-form = c.netlist_form in (
       sym netlist-file.ensures ∙ c.in-Accepted.is,
-      form-whole longest_netlist args.file.now netlist-file.result netlist-file.ensures c.in-Accepted.is netlist_body _ (sym netlist-form.ensures ∙ c.in-Past.is),
+      form_whole longest_netlist args.file.now netlist-file.result netlist-file.ensures c.in-Accepted.is netlist_body _ (sym netlist-form.ensures ∙ c.in-Past.is),
     )
 
 pub returns-in-Past : goal.returns-in-Past
@@ -31,7 +31,7 @@ returns-in-Past c =
     let args = c.args in
     let netlist-file = c.netlist_file in
     let netlist-form = c.netlist_form in
-    lists-answer.ensures ∙ others-answered longest_netlist args.file.now netlist-file.result netlist-file.ensures _ _ c.in-Accepted.is _ (sym netlist-form.ensures ∙ c.in-Past.is)
+    lists-answer.ensures ∙ others_answered longest_netlist args.file.now netlist-file.result netlist-file.ensures _ _ c.in-Accepted.is _ (sym netlist-form.ensures ∙ c.in-Past.is)
 
 pub returns-in-Refused-netlist_form : goal.returns-in-Refused-netlist_form
 unfolding netlist_answer
@@ -39,11 +39,11 @@ returns-in-Refused-netlist_form c =
     let args = c.args in
     let netlist-file = c.netlist_file in
     let netlist-form = c.netlist_form in
-    form-refused longest_netlist args.file.now netlist-file.result netlist-file.ensures _ _ c.in-Accepted.is _ (sym netlist-form.ensures ∙ c.in-Refused-netlist_form.is)
+    form_refused longest_netlist args.file.now netlist-file.result netlist-file.ensures _ _ c.in-Accepted.is _ (sym netlist-form.ensures ∙ c.in-Refused-netlist_form.is)
 
 pub returns-in-Refused : goal.returns-in-Refused
 unfolding netlist_answer
 returns-in-Refused c =
     let args = c.args in
     let netlist-file = c.netlist_file in
-    length-refused longest_netlist args.file.now netlist-file.result netlist-file.ensures (netlist_form args.file.now) (lists_answer 3 (netlist_in args.file.now)) _ _ c.in-Refused.is
+    length_refused longest_netlist args.file.now netlist-file.result netlist-file.ensures (netlist_form args.file.now) (lists_answer 3 (netlist_in args.file.now)) _ _ c.in-Refused.is

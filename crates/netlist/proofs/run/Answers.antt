@@ -1,6 +1,6 @@
 -- `netlist::run` meets its contract: a refusal writes nothing, and otherwise the cycle is written. Assumes nothing.
 use mathlib.Core.Path.{sym, ◌∙◌}
-use Rattle.tagged.proofs.RunPromises.{run-refused, row-refused, run-accepted}
+use Rattle.tagged.proofs.RunPromises.{run_refused, row_refused, run_accepted}
 use Rattle.netlist.specs.Run.{run_answer, run_leaves}
 use Rattle.netlist.proofs.run.Goals as goal
 
@@ -20,7 +20,7 @@ returns-in-Accepted-rows_answer c =
     let read = c.read in
     let rows-answer = c.rows_answer in
     let write-cycle = c.write_cycle in
-    run-accepted _ _ args.row.now args.next.now _ read.result read.ensures c.in-Accepted.is rows-answer.result rows-answer.ensures c.in-Accepted-rows_answer.is _ write-cycle.ensures
+    run_accepted _ _ args.row.now args.next.now _ read.result read.ensures c.in-Accepted.is rows-answer.result rows-answer.ensures c.in-Accepted-rows_answer.is _ write-cycle.ensures
 
 pub returns-in-Refused-rows_answer : goal.returns-in-Refused-rows_answer
 unfolding run_answer run_leaves
@@ -28,11 +28,11 @@ returns-in-Refused-rows_answer c =
     let args = c.args in
     let read = c.read in
     let rows-answer = c.rows_answer in
-    row-refused _ _ args.row.now args.next.now _ read.result read.ensures c.in-Accepted.is rows-answer.result rows-answer.ensures _ _ c.in-Refused-rows_answer.is
+    row_refused _ _ args.row.now args.next.now _ read.result read.ensures c.in-Accepted.is rows-answer.result rows-answer.ensures _ _ c.in-Refused-rows_answer.is
 
 pub returns-in-Refused : goal.returns-in-Refused
 unfolding run_answer run_leaves
 returns-in-Refused c =
     let args = c.args in
     let read = c.read in
-    run-refused _ _ args.row.now args.next.now _ read.result read.ensures _ _ c.in-Refused.is
+    run_refused _ _ args.row.now args.next.now _ read.result read.ensures _ _ c.in-Refused.is

@@ -4,8 +4,8 @@ use native.Mathlib.Omega.{arith}
 use lib.Seq.{length-take-le}
 use Rattle.tagged.specs.Declarations.{declarations_in}
 use Rattle.tagged.specs.Rows.{row_answer}
-use Rattle.tagged.proofs.TableLaws.{widths-all}
-use Rattle.verilog_check.proofs.AcceptedFile.{payload-short, variables-told, widths-told, widths-room, widths-few}
+use Rattle.tagged.proofs.TableLaws.{widths_all}
+use Rattle.verilog_check.proofs.AcceptedFile.{payload_short, variables_told, widths_told, widths_room, widths_few}
 use Rattle.verilog_run.proofs.rows_answer.Goals as goal
 
 pub variable_table-table-requires : goal.variable_table-table-requires
@@ -13,7 +13,7 @@ variable_table-table-requires c =
     let args = c.args in
     let from = c.from in
     let pre = c.requires in
-    omega (arith, payload-short args.file.now pre from.result.now from.ensures)
+    omega (arith, payload_short args.file.now pre from.result.now from.ensures)
 
 pub slice_bounds-widths-end : goal.slice_bounds-widths-end
 slice_bounds-widths-end c =
@@ -21,7 +21,7 @@ slice_bounds-widths-end c =
     let pre = c.requires in
     let from = c.from in
     let variable-table = c.variable_table-table in
-    widths-room args.file.now pre _ from.ensures variable-table.result variable-table.ensures
+    widths_room args.file.now pre _ from.ensures variable-table.result variable-table.ensures
 
 pub slice_bounds-row_answer-end : goal.slice_bounds-row_answer-end
 slice_bounds-row_answer-end c =
@@ -30,7 +30,7 @@ slice_bounds-row_answer-end c =
     let pre = c.requires in
     let from = c.from in
     sym (length-take-le variable-table.result.count variable-table.result.widths
-    (widths-room args.file.now pre _ from.ensures variable-table.result variable-table.ensures))
+    (widths_room args.file.now pre _ from.ensures variable-table.result variable-table.ensures))
 
 pub row_answer-requires : goal.row_answer-requires
 row_answer-requires c =
@@ -38,7 +38,7 @@ row_answer-requires c =
     let pre = c.requires in
     let from = c.from in
     let variable-table = c.variable_table-table in
-    widths-few args.file.now pre _ from.ensures variable-table.result variable-table.ensures
+    widths_few args.file.now pre _ from.ensures variable-table.result variable-table.ensures
 
 pub returns : goal.returns
 returns c =
@@ -48,5 +48,5 @@ returns c =
     let from = c.from in
     let variable-table = c.variable_table-table in
     row-answer.ensures ∙ ap (λ widths. row_answer widths args.row.now args.next_length)
-    (widths-told args.file.now pre from.result.now from.ensures _
-    (widths-all (declarations_in from.result.now) variable-table.result variable-table.ensures (variables-told args.file.now pre from.result.now from.ensures)))
+    (widths_told args.file.now pre from.result.now from.ensures _
+    (widths_all (declarations_in from.result.now) variable-table.result variable-table.ensures (variables_told args.file.now pre from.result.now from.ensures)))

@@ -7,8 +7,8 @@ use native.Mathlib.Omega.{arith}
 use lib.Pow.{pow_mono, shl_lt}
 use Rattle.words.specs.Limits.{greatest_width}
 use Rattle.words.specs.Bits.{bit, put_bit}
-use Rattle.words.proofs.BitLaws.{bit-lt, shl_one, old-le}
-use Rattle.words.proofs.WidthLaws.{put_bit-lt}
+use Rattle.words.proofs.BitLaws.{bit_lt, shl_one, old_le}
+use Rattle.words.proofs.WidthLaws.{put_bit_lt}
 use Rattle.words.proofs.put_bit.Goals as goal
 
 abbrev place : ℕ → ℕ
@@ -22,17 +22,17 @@ placed k d hk hd = rw (shl_one k greatest_width hk) (lt_of_lt_of_le (shl_lt 1 k 
 -- the code's steps, with the bit that its call gave
 module _ (v k old : ℕ) (hk : k < greatest_width) (q : old ≡ bit v k) where
   was : old * place k ≤ v
-  was = rw (shl_one k greatest_width hk, q) (old-le v k)
+  was = rw (shl_one k greatest_width hk, q) (old_le v k)
 
   is : (b : ℕ) → (v - old * place k) + b * place k ≡ put_bit v k b
   unfolding put_bit
   is b = rw (shl_one k greatest_width hk, q)
 
   within : (b : ℕ) → v < 2 ^ greatest_width → b < 2 → (v - old * place k) + b * place k < 2 ^ greatest_width
-  within b hv hb = rw (is b) (put_bit-lt greatest_width v k b hv hk hb)
+  within b hv hb = rw (is b) (put_bit_lt greatest_width v k b hv hk hb)
 
 pub overflow_mul-result : goal.overflow_mul-result
-overflow_mul-result c = record { fits = placed _ _ c.requires.0 (rw c.bit-old.ensures (bit-lt _ _)) }
+overflow_mul-result c = record { fits = placed _ _ c.requires.0 (rw c.bit-old.ensures (bit_lt _ _)) }
 
 pub overflow_sub-result : goal.overflow_sub-result
 overflow_sub-result c = was _ _ _ c.requires.0 c.bit-old.ensures

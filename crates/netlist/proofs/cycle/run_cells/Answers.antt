@@ -3,8 +3,8 @@ use mathlib.Core.Path.{refl, ap, ◌∙◌}
 use lib.ListN.{length, length-set}
 use Rattle.netlist.specs.Reading.{cell_in}
 use Rattle.netlist.specs.Numbers.{cell_number}
-use Rattle.netlist.proofs.RuleWalks.{left-start, cell-within, cell-more, cell-none, left-more, left-none}
-use Rattle.netlist.proofs.RunWalks.{numbers-turn, numbers-done}
+use Rattle.netlist.proofs.RuleWalks.{left_start, cell_within, cell_more, cell_none, left_more, left_none}
+use Rattle.netlist.proofs.RunWalks.{numbers_turn, numbers_done}
 use borrow.Author.Rules.{rules}
 use native.Mathlib.Omega.{arith}
 use Rattle.netlist.proofs.cycle.run_cells.Goals as goal
@@ -12,7 +12,7 @@ use Rattle.netlist.proofs.cycle.run_cells.Goals as goal
 pub loop-sort-init : goal.loop-sort-init
 loop-sort-init c =
     let args = c.args in
-    (search rules, search rules, refl, refl, λ m e. left-start args.list.now m e)
+    (search rules, search rules, refl, refl, λ m e. left_start args.list.now m e)
 
 pub shape_of-values-in-Ended : goal.shape_of-values-in-Ended
 shape_of-values-in-Ended c = c.loop-sort.invariant.2
@@ -23,8 +23,8 @@ returns-in-Ended c =
     let loop = c.loop-sort in
     let next-cell = c.next_cell in
     record {
-      numbers = numbers-done args.row.now loop.values loop.count _ (cell-none args.list.now _ _ next-cell.ensures c.in-Ended.is) loop.invariant.3;
-      ends = λ m e. left-none args.list.now _ _ next-cell.ensures m (loop.invariant.4 m e) c.in-Ended.is;
+      numbers = numbers_done args.row.now loop.values loop.count _ (cell_none args.list.now _ _ next-cell.ensures c.in-Ended.is) loop.invariant.3;
+      ends = λ m e. left_none args.list.now _ _ next-cell.ensures m (loop.invariant.4 m e) c.in-Ended.is;
     }
 
 pub payload_at-requires : goal.payload_at-requires
@@ -32,21 +32,21 @@ payload_at-requires c =
     let args = c.args in
     let next-cell = c.next_cell in
     let pre = c.requires in
-    (omega (arith, cell-within args.list.now _ _ next-cell.ensures _ _ c.in-Cell.is), pre)
+    (omega (arith, cell_within args.list.now _ _ next-cell.ensures _ _ c.in-Cell.is), pre)
 
 pub overflow_add-at : goal.overflow_add-at
 overflow_add-at c =
     let args = c.args in
     let next-cell = c.next_cell in
     let pre = c.requires in
-    omega (arith, cell-within args.list.now _ _ next-cell.ensures _ _ c.in-Cell.is, pre)
+    omega (arith, cell_within args.list.now _ _ next-cell.ensures _ _ c.in-Cell.is, pre)
 
 pub overflow_add-at-in-Cell : goal.overflow_add-at-in-Cell
 overflow_add-at-in-Cell c =
     let args = c.args in
     let next-cell = c.next_cell in
     let pre = c.requires in
-    omega (arith, cell-within args.list.now _ _ next-cell.ensures _ _ c.in-Cell.is, pre)
+    omega (arith, cell_within args.list.now _ _ next-cell.ensures _ _ c.in-Cell.is, pre)
 
 pub overflow_add-count : goal.overflow_add-count
 overflow_add-count c =
@@ -54,13 +54,13 @@ overflow_add-count c =
     let next-cell = c.next_cell in
     let loop = c.loop-sort in
     let pre = c.requires in
-    omega (arith, cell-within args.list.now _ _ next-cell.ensures _ _ c.in-Cell.is, loop.invariant.1, pre)
+    omega (arith, cell_within args.list.now _ _ next-cell.ensures _ _ c.in-Cell.is, loop.invariant.1, pre)
 
 pub loop-sort-smaller : goal.loop-sort-smaller
 loop-sort-smaller c =
     let args = c.args in
     let next-cell = c.next_cell in
-    omega (arith, cell-within args.list.now _ _ next-cell.ensures _ _ c.in-Cell.is)
+    omega (arith, cell_within args.list.now _ _ next-cell.ensures _ _ c.in-Cell.is)
 
 pub loop-sort-preserved : goal.loop-sort-preserved
 loop-sort-preserved c =
@@ -71,11 +71,11 @@ loop-sort-preserved c =
     let cell-number = c.cell_number-number in
     let by_cell_in = c.cell_in-cell in
     let payload-at = c.payload_at in (
-      omega (arith, cell-within args.list.now _ _ next-cell.ensures _ _ c.in-Cell.is),
+      omega (arith, cell_within args.list.now _ _ next-cell.ensures _ _ c.in-Cell.is),
       omega (arith, loop.invariant.1),
       ap length put-number.ensures ∙ length-set loop.values loop.count _ ∙ loop.invariant.2,
-      numbers-turn args.row.now loop.values loop.count _ _ _ (cell-more args.list.now _ _ next-cell.ensures _ _ c.in-Cell.is) loop.invariant.3 _
+      numbers_turn args.row.now loop.values loop.count _ _ _ (cell_more args.list.now _ _ next-cell.ensures _ _ c.in-Cell.is) loop.invariant.3 _
           (cell-number.ensures ∙ ap (cell_number args.row.now loop.values) (by_cell_in.ensures ∙ ap (cell_in c.in-Cell.sort) payload-at.ensures))
           _ put-number.ensures,
-      λ m e. left-more args.list.now _ _ next-cell.ensures m (loop.invariant.4 m e) _ _ c.in-Cell.is,
+      λ m e. left_more args.list.now _ _ next-cell.ensures m (loop.invariant.4 m e) _ _ c.in-Cell.is,
     )

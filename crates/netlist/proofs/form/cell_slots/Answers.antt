@@ -2,14 +2,14 @@
 use mathlib.Core.Path.{ap}
 use Prim.Native.Nat.{◌+◌}
 use Rattle.netlist.specs.Form.{shape_of}
-use Rattle.netlist.proofs.FormLaws.{operand-first, operand-refused, operand-then, slots-ended}
+use Rattle.netlist.proofs.FormLaws.{operand_first, operand_refused, operand_then, slots_ended}
 use Rattle.netlist.proofs.form.cell_slots.Goals as goal
 
 pub returns-then-not-operand_stands : goal.returns-then-not-operand_stands
 returns-then-not-operand_stands c base =
     let args = c.args in
     let stands = c.operand_stands in
-    operand-refused _ _ (operand-first args.cell).1 base _ args.part.now _ stands.ensures (c.if-not-operand_stands.true)
+    operand_refused _ _ (operand_first args.cell).1 base _ args.part.now _ stands.ensures (c.if-not-operand_stands.true)
 
 pub returns-in-One : goal.returns-in-One
 returns-in-One c base =
@@ -18,7 +18,7 @@ returns-in-One c base =
     let going = c.if-not-operand_stands.false in
     let more = c.from-more in
     let shape = ap shape_of c.in-One.is in
-    operand-then _ _ shape base _ args.part.now _ stands.ensures going _ more.ensures _ (slots-ended _ (base + 6) _ _ _ c.at_end.ensures)
+    operand_then _ _ shape base _ args.part.now _ stands.ensures going _ more.ensures _ (slots_ended _ (base + 6) _ _ _ c.at_end.ensures)
 
 pub returns-in-Two : goal.returns-in-Two
 returns-in-Two c base =
@@ -27,7 +27,7 @@ returns-in-Two c base =
     let going = c.if-not-operand_stands.false in
     let more = c.from-more in
     let shape = ap shape_of c.in-Two.is in
-    operand-then _ _ shape base _ args.part.now _ stands.ensures going _ more.ensures _ (c.one_operand.ensures (base + 6))
+    operand_then _ _ shape base _ args.part.now _ stands.ensures going _ more.ensures _ (c.one_operand.ensures (base + 6))
 
 pub returns-in-Mux : goal.returns-in-Mux
 returns-in-Mux c base =
@@ -36,7 +36,7 @@ returns-in-Mux c base =
     let going = c.if-not-operand_stands.false in
     let more = c.from-more in
     let shape = ap shape_of c.in-Mux.is in
-    operand-then _ _ shape base _ args.part.now _ stands.ensures going _ more.ensures _ (c.two_operands.ensures (base + 6))
+    operand_then _ _ shape base _ args.part.now _ stands.ensures going _ more.ensures _ (c.two_operands.ensures (base + 6))
 
 pub returns-in-Put : goal.returns-in-Put
 returns-in-Put c base =
@@ -45,7 +45,7 @@ returns-in-Put c base =
     let going = c.if-not-operand_stands.false in
     let more = c.from-more in
     let shape = ap shape_of c.in-Put.is in
-    operand-then _ _ shape base _ args.part.now _ stands.ensures going _ more.ensures _ (c.byte_and_operand.ensures (base + 6))
+    operand_then _ _ shape base _ args.part.now _ stands.ensures going _ more.ensures _ (c.byte_and_operand.ensures (base + 6))
 
 pub returns-in-FixedBit : goal.returns-in-FixedBit
 returns-in-FixedBit c base =
@@ -54,7 +54,7 @@ returns-in-FixedBit c base =
     let going = c.if-not-operand_stands.false in
     let more = c.from-more in
     let shape = ap shape_of c.in-FixedBit.is in
-    operand-then _ _ shape base _ args.part.now _ stands.ensures going _ more.ensures _ (c.one_byte.ensures (base + 6))
+    operand_then _ _ shape base _ args.part.now _ stands.ensures going _ more.ensures _ (c.one_byte.ensures (base + 6))
 
 pub returns-in-ChosenBit : goal.returns-in-ChosenBit
 returns-in-ChosenBit c base =
@@ -63,4 +63,4 @@ returns-in-ChosenBit c base =
     let going = c.if-not-operand_stands.false in
     let more = c.from-more in
     let shape = ap shape_of c.in-ChosenBit.is in
-    operand-then _ _ shape base _ args.part.now _ stands.ensures going _ more.ensures _ (c.one_operand-in-ChosenBit.ensures (base + 6))
+    operand_then _ _ shape base _ args.part.now _ stands.ensures going _ more.ensures _ (c.one_operand-in-ChosenBit.ensures (base + 6))

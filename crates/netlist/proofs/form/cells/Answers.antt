@@ -6,13 +6,13 @@ use Rattle.tagged.specs.Sorts.{sort_of, is_cell}
 use Rattle.tagged.specs.Fields.{field_by}
 use Rattle.netlist.specs.Form.{cell_body, cells_step}
 use Rattle.tagged.proofs.ByteLaws.{front}
-use Rattle.tagged.proofs.FieldLaws.{past-within}
-use Rattle.tagged.proofs.ListLaws.{further-zero, turn-done, turn-stop, turn-refused, turn-past}
+use Rattle.tagged.proofs.FieldLaws.{past_within}
+use Rattle.tagged.proofs.ListLaws.{further_zero, turn_done, turn_stop, turn_refused, turn_past}
 use borrow.Author.Rules.{rules}
 use Rattle.netlist.proofs.form.cells.Goals as goal
 
 pub loop-at-init : goal.loop-at-init
-loop-at-init c = (search rules, rw (add-zero, further-zero))
+loop-at-init c = (search rules, rw (add-zero, further_zero))
 
 pub returns-then-not-begins_cell : goal.returns-then-not-begins_cell
 unfolding cells_step
@@ -22,18 +22,18 @@ returns-then-not-begins_cell c =
     let loop-test = c.loop-at-test in
     let begins-cell = c.begins_cell in
     let if1 = c.if-not-begins_cell in
-    turn-stop is_cell (field_by cell_body) _ _ args.part.now _ loop.invariant.1 loop-test.true
+    turn_stop is_cell (field_by cell_body) _ _ args.part.now _ loop.invariant.1 loop-test.true
     (ap (λ x. is_cell (sort_of x)) (front args.part.now loop.at) ∙ sym begins-cell.ensures ∙ if1.true)
 
 pub overflow_add-at : goal.overflow_add-at
 overflow_add-at c =
     let cell = c.cell in
-    omega (arith, past-within cell_body _ _ _ _ _ cell.ensures c.in-Past.is)
+    omega (arith, past_within cell_body _ _ _ _ _ cell.ensures c.in-Past.is)
 
 pub loop-at-smaller : goal.loop-at-smaller
 loop-at-smaller c =
     let cell = c.cell in
-    omega (arith, past-within cell_body _ _ _ _ _ cell.ensures c.in-Past.is)
+    omega (arith, past_within cell_body _ _ _ _ _ cell.ensures c.in-Past.is)
 
 pub loop-at-preserved : goal.loop-at-preserved
 loop-at-preserved c =
@@ -43,10 +43,10 @@ loop-at-preserved c =
     let loop-test = c.loop-at-test in
     let begins-cell = c.begins_cell in
     let if1 = c.if-not-begins_cell in (
-      omega (arith, past-within cell_body _ _ _ _ _ cell.ensures c.in-Past.is),
-      turn-past is_cell (field_by cell_body) _ _ args.part.now _ loop.invariant.1 loop-test.true
+      omega (arith, past_within cell_body _ _ _ _ _ cell.ensures c.in-Past.is),
+      turn_past is_cell (field_by cell_body) _ _ args.part.now _ loop.invariant.1 loop-test.true
           (ap (λ x. is_cell (sort_of x)) (front args.part.now loop.at) ∙ sym begins-cell.ensures ∙ if1.false) _ cell.ensures _
-          c.in-Past.is (past-within cell_body _ _ _ _ _ cell.ensures c.in-Past.is),
+          c.in-Past.is (past_within cell_body _ _ _ _ _ cell.ensures c.in-Past.is),
     )
 
 pub returns-in-Refused : goal.returns-in-Refused
@@ -58,7 +58,7 @@ returns-in-Refused c =
     let begins-cell = c.begins_cell in
     let if1 = c.if-not-begins_cell in
     let cell = c.cell in
-    turn-refused is_cell (field_by cell_body) _ _ args.part.now _ loop.invariant.1 loop-test.true
+    turn_refused is_cell (field_by cell_body) _ _ args.part.now _ loop.invariant.1 loop-test.true
     (ap (λ x. is_cell (sort_of x)) (front args.part.now loop.at) ∙ sym begins-cell.ensures ∙ if1.false) _ cell.ensures _
     c.in-Refused.is
 
@@ -68,4 +68,4 @@ returns c =
     let args = c.args in
     let loop = c.loop-at in
     let loop-test = c.loop-at-test in
-    turn-done is_cell (field_by cell_body) _ _ args.part.now _ loop.invariant.1 loop-test.false
+    turn_done is_cell (field_by cell_body) _ _ args.part.now _ loop.invariant.1 loop-test.false

@@ -3,7 +3,7 @@ use mathlib.Core.Path.{refl}
 use mathlib.Core.List.{[], ◌∷◌}
 use Prim.Native.Nat.{◌+◌}
 use Rattle.netlist.specs.Form.{an_operand}
-use Rattle.netlist.proofs.FormLaws.{operand-refused, operand-then}
+use Rattle.netlist.proofs.FormLaws.{operand_refused, operand_then}
 use Rattle.netlist.proofs.form.two_operands.Goals as goal
 
 pub returns-then-operand_stands : goal.returns-then-operand_stands
@@ -12,10 +12,10 @@ returns-then-operand_stands c base =
     let stands = c.operand_stands in
     let there = c.if-operand_stands.true in
     let more = c.from in
-    operand-then _ _ refl base _ args.part.now _ stands.ensures there _ more.ensures _ (c.one_operand.ensures (base + 6))
+    operand_then _ _ refl base _ args.part.now _ stands.ensures there _ more.ensures _ (c.one_operand.ensures (base + 6))
 
 pub returns-else-operand_stands : goal.returns-else-operand_stands
 returns-else-operand_stands c base =
     let args = c.args in
     let stands = c.operand_stands in
-    operand-refused _ (an_operand ∷ []) refl base _ args.part.now _ stands.ensures c.if-operand_stands.false
+    operand_refused _ (an_operand ∷ []) refl base _ args.part.now _ stands.ensures c.if-operand_stands.false

@@ -1,8 +1,8 @@
 -- `netlist::parts::part_in` meets its contract: what is still to be passed, from here on, leads to the same cell. Assumes nothing.
 use native.Mathlib.Nat.{add-zero}
 use native.Mathlib.Omega.{arith}
-use Rattle.netlist.proofs.RuleWalks.{cell-within}
-use Rattle.netlist.proofs.PartLaws.{part_none, part-here, part-later}
+use Rattle.netlist.proofs.RuleWalks.{cell_within}
+use Rattle.netlist.proofs.PartLaws.{part_none, part_here, part_later}
 use borrow.Author.Rules.{rules}
 use Rattle.netlist.proofs.parts.part_in.Goals as goal
 
@@ -27,28 +27,28 @@ overflow_add-result-then-left-eq0 c =
     let args = c.args in
     let next-cell = c.next_cell in
     let pre = c.requires in
-    omega (arith, cell-within args.list.now _ _ next-cell.ensures _ _ c.in-Cell.is, pre)
+    omega (arith, cell_within args.list.now _ _ next-cell.ensures _ _ c.in-Cell.is, pre)
 
 pub overflow_add-result-then-left-eq0-2 : goal.overflow_add-result-then-left-eq0-2
 overflow_add-result-then-left-eq0-2 c =
     let args = c.args in
     let next-cell = c.next_cell in
     let pre = c.requires in
-    omega (arith, cell-within args.list.now _ _ next-cell.ensures _ _ c.in-Cell.is, pre)
+    omega (arith, cell_within args.list.now _ _ next-cell.ensures _ _ c.in-Cell.is, pre)
 
 pub overflow_add-result-then-left-eq0-3 : goal.overflow_add-result-then-left-eq0-3
 overflow_add-result-then-left-eq0-3 c =
     let args = c.args in
     let next-cell = c.next_cell in
     let pre = c.requires in
-    omega (arith, cell-within args.list.now _ _ next-cell.ensures _ _ c.in-Cell.is, pre)
+    omega (arith, cell_within args.list.now _ _ next-cell.ensures _ _ c.in-Cell.is, pre)
 
 pub overflow_add-result-then-left-eq0-4 : goal.overflow_add-result-then-left-eq0-4
 overflow_add-result-then-left-eq0-4 c =
     let args = c.args in
     let next-cell = c.next_cell in
     let pre = c.requires in
-    omega (arith, cell-within args.list.now _ _ next-cell.ensures _ _ c.in-Cell.is, pre)
+    omega (arith, cell_within args.list.now _ _ next-cell.ensures _ _ c.in-Cell.is, pre)
 
 pub returns-then-left-eq0 : goal.returns-then-left-eq0
 returns-then-left-eq0 c =
@@ -56,27 +56,27 @@ returns-then-left-eq0 c =
     let loop = c.loop-size in
     let next-cell = c.next_cell in
     let if1 = c.if-left-eq0 in
-    part-here args.list.now args.base args.number loop.at loop.left loop.invariant.1 next-cell.result next-cell.ensures _ _ c.in-Cell.is if1.true
+    part_here args.list.now args.base args.number loop.at loop.left loop.invariant.1 next-cell.result next-cell.ensures _ _ c.in-Cell.is if1.true
 
 pub overflow_add-at : goal.overflow_add-at
 overflow_add-at c =
     let args = c.args in
     let next-cell = c.next_cell in
     let pre = c.requires in
-    omega (arith, cell-within args.list.now _ _ next-cell.ensures _ _ c.in-Cell.is, pre)
+    omega (arith, cell_within args.list.now _ _ next-cell.ensures _ _ c.in-Cell.is, pre)
 
 pub overflow_add-at-in-Cell : goal.overflow_add-at-in-Cell
 overflow_add-at-in-Cell c =
     let args = c.args in
     let next-cell = c.next_cell in
     let pre = c.requires in
-    omega (arith, cell-within args.list.now _ _ next-cell.ensures _ _ c.in-Cell.is, pre)
+    omega (arith, cell_within args.list.now _ _ next-cell.ensures _ _ c.in-Cell.is, pre)
 
 pub loop-size-smaller : goal.loop-size-smaller
 loop-size-smaller c =
     let args = c.args in
     let next-cell = c.next_cell in
-    omega (arith, cell-within args.list.now _ _ next-cell.ensures _ _ c.in-Cell.is)
+    omega (arith, cell_within args.list.now _ _ next-cell.ensures _ _ c.in-Cell.is)
 
 pub loop-size-preserved : goal.loop-size-preserved
 loop-size-preserved c =
@@ -84,6 +84,6 @@ loop-size-preserved c =
     let next-cell = c.next_cell in
     let loop = c.loop-size in
     let if1 = c.if-left-eq0 in (
-      omega (arith, cell-within args.list.now _ _ next-cell.ensures _ _ c.in-Cell.is),
-      part-later args.list.now args.base args.number loop.at loop.left loop.invariant.1 next-cell.result next-cell.ensures _ _ c.in-Cell.is if1.false,
+      omega (arith, cell_within args.list.now _ _ next-cell.ensures _ _ c.in-Cell.is),
+      part_later args.list.now args.base args.number loop.at loop.left loop.invariant.1 next-cell.result next-cell.ensures _ _ c.in-Cell.is if1.false,
     )

@@ -1,6 +1,6 @@
 -- `netlist::rules::cell_outside` meets its contract: each arm is the cell that the match found, with what the calls gave. Assumes nothing.
 use Rattle.netlist.specs.Rules.{cell_outside}
-use Rattle.netlist.proofs.RuleLaws.{no-bit}
+use Rattle.netlist.proofs.RuleLaws.{no_bit}
 use Rattle.netlist.proofs.rules.cell_outside.Goals as goal
 
 pub returns-in-Put : goal.returns-in-Put
@@ -21,4 +21,4 @@ returns-in-ChosenBit c =
 pub returns-in_default : goal.returns-in_default
 returns-in_default c =
     let args = c.args in
-    no-bit args.cell c.in_default.not-Put c.in_default.not-FixedBit c.in_default.not-ChosenBit
+    no_bit args.cell c.in_default.not-Put c.in_default.not-FixedBit c.in_default.not-ChosenBit

@@ -13,9 +13,9 @@ use Rattle.netlist.specs.Lists.{cell_width}
 use Rattle.netlist.specs.Reading.{cell_in, cells_at, drives_at}
 use Rattle.netlist.specs.Rules.{cell_breaks, drive_breaks}
 use Rattle.netlist.specs.WalkAnswers.{one_answer, list_answer, whole_answer, parts_answer, most_listed}
-use Rattle.netlist.proofs.RuleAnswers.{walking_start, walking-more, walking-done}
-use Rattle.netlist.proofs.RuleWalks.{cells_of, cell-within, cell-placed, cell-more, cell-ended, cell-none, left-start, left-more, left-none}
-use Rattle.netlist.proofs.RuleWalks.{walked_start, walked_more, walked_all, walked-before, tabled_start, tabled-within, tabled-room, tabled-more}
+use Rattle.netlist.proofs.RuleAnswers.{walking_start, walking_more, walking_done}
+use Rattle.netlist.proofs.RuleWalks.{cells_of, cell_within, cell_placed, cell_more, cell_ended, cell_none, left_start, left_more, left_none}
+use Rattle.netlist.proofs.RuleWalks.{walked_start, walked_more, walked_all, walked_before, tabled_start, tabled_within, tabled_room, tabled_more}
 use borrow.Author.Rules.{rules}
 use Rattle.netlist.proofs.rules.cells_answer.Goals as goal
 
@@ -26,7 +26,7 @@ loop-drives-init c =
       search rules,
       walked_start (cells_of args.list.now),
       tabled_start cell_width most_listed (cells_of args.list.now),
-      left-start args.list.now _ pre.1,
+      left_start args.list.now _ pre.1,
       λ ds known. rw add-zero (walking_start (λ rule. cell_breaks rule ds) (cells_at args.base args.list.now)),
     )
 
@@ -34,13 +34,13 @@ pub slice_bounds-widths-end : goal.slice_bounds-widths-end
 slice_bounds-widths-end c =
     let loop = c.loop-drives in
     let pre = c.requires in
-    tabled-within loop.invariant.1 loop.invariant.2 pre.2
+    tabled_within loop.invariant.1 loop.invariant.2 pre.2
 
 pub slice_bounds-cells-end : goal.slice_bounds-cells-end
 slice_bounds-cells-end c =
     let loop = c.loop-drives in
     let pre = c.requires in
-    sym (length-take-le loop.count loop.widths (tabled-within loop.invariant.1 loop.invariant.2 pre.2))
+    sym (length-take-le loop.count loop.widths (tabled_within loop.invariant.1 loop.invariant.2 pre.2))
 
 pub overflow_add-base : goal.overflow_add-base
 overflow_add-base c =
@@ -63,12 +63,12 @@ returns-in-Ended c =
     let loop = c.loop-drives in
     let from = c.from-drives in
     λ n known cells drives.
-    let bytes = left-none args.list.now _ _ next-cell.ensures _ loop.invariant.3 c.in-Ended.is in
+    let bytes = left_none args.list.now _ _ next-cell.ensures _ loop.invariant.3 c.in-Ended.is in
     let after = from.ensures ∙ ap (λ k. drop k args.list.now) bytes in
-    let all = walked_all loop.invariant.1 (cell-none args.list.now _ _ next-cell.ensures c.in-Ended.is) in
+    let all = walked_all loop.invariant.1 (cell_none args.list.now _ _ next-cell.ensures c.in-Ended.is) in
     let listed = cells ∙ sym (take_all loop.count (cells_of args.list.now) (omega (arith, all))) in
     c.or_lower.ensures ∙ ap₂ lower_refusal
-    (walking-done (loop.invariant.4 n.declarations known.widths) (cell-ended args.list.now _ _ next-cell.ensures _ c.in-Ended.is))
+    (walking_done (loop.invariant.4 n.declarations known.widths) (cell_ended args.list.now _ _ next-cell.ensures _ c.in-Ended.is))
     (c.drives_answer-later.ensures n known (ap (map cell_width) listed ∙ loop.invariant.2.held) (drives ∙ ap (λ l. unplaced (drives_at 0 l)) (sym after))
     ∙ ap₂ (λ k l. lower_refusal (list_answer (λ rule. drive_breaks rule n.declarations n.cells) [] (drives_at (args.base + k) l)) (whole_answer n)) bytes after)
 
@@ -77,19 +77,19 @@ payload_at-requires c =
     let args = c.args in
     let next-cell = c.next_cell in
     let pre = c.requires in
-    (omega (arith, cell-within args.list.now _ _ next-cell.ensures _ _ c.in-Cell.is), omega (arith, pre.0))
+    (omega (arith, cell_within args.list.now _ _ next-cell.ensures _ _ c.in-Cell.is), omega (arith, pre.0))
 
 pub slice_bounds-widths-end-in-Cell : goal.slice_bounds-widths-end-in-Cell
 slice_bounds-widths-end-in-Cell c =
     let loop = c.loop-drives in
     let pre = c.requires in
-    tabled-within loop.invariant.1 loop.invariant.2 pre.2
+    tabled_within loop.invariant.1 loop.invariant.2 pre.2
 
 pub slice_bounds-cell_answer-end : goal.slice_bounds-cell_answer-end
 slice_bounds-cell_answer-end c =
     let loop = c.loop-drives in
     let pre = c.requires in
-    sym (length-take-le loop.count loop.widths (tabled-within loop.invariant.1 loop.invariant.2 pre.2))
+    sym (length-take-le loop.count loop.widths (tabled_within loop.invariant.1 loop.invariant.2 pre.2))
 
 pub bounds-widths-count : goal.bounds-widths-count
 bounds-widths-count c =
@@ -97,21 +97,21 @@ bounds-widths-count c =
     let pre = c.requires in
     let args = c.args in
     let next-cell = c.next_cell in
-    tabled-room loop.invariant.1 loop.invariant.2 pre.2 (cell-more args.list.now _ _ next-cell.ensures _ _ c.in-Cell.is)
+    tabled_room loop.invariant.1 loop.invariant.2 pre.2 (cell_more args.list.now _ _ next-cell.ensures _ _ c.in-Cell.is)
 
 pub overflow_add-at : goal.overflow_add-at
 overflow_add-at c =
     let args = c.args in
     let next-cell = c.next_cell in
     let pre = c.requires in
-    omega (arith, cell-within args.list.now _ _ next-cell.ensures _ _ c.in-Cell.is, pre.0)
+    omega (arith, cell_within args.list.now _ _ next-cell.ensures _ _ c.in-Cell.is, pre.0)
 
 pub overflow_add-at-in-Cell : goal.overflow_add-at-in-Cell
 overflow_add-at-in-Cell c =
     let args = c.args in
     let next-cell = c.next_cell in
     let pre = c.requires in
-    omega (arith, cell-within args.list.now _ _ next-cell.ensures _ _ c.in-Cell.is, pre.0)
+    omega (arith, cell_within args.list.now _ _ next-cell.ensures _ _ c.in-Cell.is, pre.0)
 
 pub overflow_add-count : goal.overflow_add-count
 overflow_add-count c =
@@ -123,7 +123,7 @@ pub loop-drives-smaller : goal.loop-drives-smaller
 loop-drives-smaller c =
     let args = c.args in
     let next-cell = c.next_cell in
-    omega (arith, cell-within args.list.now _ _ next-cell.ensures _ _ c.in-Cell.is)
+    omega (arith, cell_within args.list.now _ _ next-cell.ensures _ _ c.in-Cell.is)
 
 pub loop-drives-preserved : goal.loop-drives-preserved
 loop-drives-preserved c =
@@ -136,12 +136,12 @@ loop-drives-preserved c =
     let cell-answer = c.cell_answer-answer in
     let is = by_cell_in.ensures ∙ ap (cell_in c.in-Cell.sort) payload-at.ensures in
     let earlier = take loop.count (cells_of args.list.now) in (
-      omega (arith, cell-within args.list.now _ _ next-cell.ensures _ _ c.in-Cell.is),
-      walked_more loop.invariant.1 (cell-more args.list.now _ _ next-cell.ensures _ _ c.in-Cell.is) (omega arith),
-      tabled-more loop.invariant.1 loop.invariant.2 pre.2 (cell-more args.list.now _ _ next-cell.ensures _ _ c.in-Cell.is)
+      omega (arith, cell_within args.list.now _ _ next-cell.ensures _ _ c.in-Cell.is),
+      walked_more loop.invariant.1 (cell_more args.list.now _ _ next-cell.ensures _ _ c.in-Cell.is) (omega arith),
+      tabled_more loop.invariant.1 loop.invariant.2 pre.2 (cell_more args.list.now _ _ next-cell.ensures _ _ c.in-Cell.is)
           (c.cell_width.ensures ∙ ap cell_width is),
-      left-more args.list.now _ _ next-cell.ensures _ loop.invariant.3 _ _ c.in-Cell.is,
-      λ ds known. walking-more (loop.invariant.4 ds known) (cell-placed args.list.now _ _ next-cell.ensures args.base _ _ c.in-Cell.is)
+      left_more args.list.now _ _ next-cell.ensures _ loop.invariant.3 _ _ c.in-Cell.is,
+      λ ds known. walking_more (loop.invariant.4 ds known) (cell_placed args.list.now _ _ next-cell.ensures args.base _ _ c.in-Cell.is)
           (cell-answer.ensures ds earlier known loop.invariant.2.held ∙ ap (λ a. one_answer (λ rule. cell_breaks rule ds) earlier a (args.base + loop.at)) is)
-          c.or_lower-best.ensures (walked-before loop.invariant.1 (cell-more args.list.now _ _ next-cell.ensures _ _ c.in-Cell.is)),
+          c.or_lower-best.ensures (walked_before loop.invariant.1 (cell_more args.list.now _ _ next-cell.ensures _ _ c.in-Cell.is)),
     )

@@ -3,7 +3,7 @@ use mathlib.Core.Path.{◌≡◌, sym, ◌∙◌}
 use Prim.Native.Nat.{ℕ}
 use native.Mathlib.Omega.{arith}
 use Rattle.words.specs.Widths.{is_width}
-use Rattle.tagged.proofs.ChoiceLaws.{first_taken, second-taken}
+use Rattle.tagged.proofs.ChoiceLaws.{first_taken, second_taken}
 use Rattle.netlist.proofs.rules.is_width.Goals as goal
 
 pub returns-in-Good : goal.returns-in-Good
@@ -16,4 +16,4 @@ pub returns-in-Refused : goal.returns-in-Refused
 returns-in-Refused c =
     let args = c.args in
     let new = c.new in
-    sym (second-taken (is_width args.width) _ _ (sym new.ensures ∙ c.in-Refused.is) (λ e. let z : ◌≡◌ {A = ℕ} 0 1 = cc in omega arith))
+    sym (second_taken (is_width args.width) _ _ (sym new.ensures ∙ c.in-Refused.is) (λ e. let z : ◌≡◌ {A = ℕ} 0 1 = cc in omega arith))

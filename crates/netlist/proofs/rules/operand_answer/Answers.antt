@@ -2,7 +2,7 @@
 use Rattle.netlist.specs.WalkAnswers.{answer_of, operands_answer}
 use Rattle.netlist.specs.Rules.{operand_value_broken, operand_missing, operand_unlike}
 use Rattle.netlist.proofs.RuleLaws.{counted}
-use Rattle.netlist.proofs.RuleAnswers.{one-operand}
+use Rattle.netlist.proofs.RuleAnswers.{one_operand_lem}
 use Rattle.tagged.specs.Declarations.{width_of}
 use Rattle.netlist.specs.Lists.{cell_width}
 use Rattle.netlist.proofs.rules.operand_answer.Goals as goal
@@ -25,10 +25,10 @@ pub returns-in-Variable : goal.returns-in-Variable
 unfolding operand_value_broken operand_missing operand_unlike
 returns-in-Variable c =
     let args = c.args in
-    λ ds cs d e. rw (one-operand ds cs args.place args.operand, c.in-Variable.is, d, counted width_of ds d) c.named_answer.ensures
+    λ ds cs d e. rw (one_operand_lem ds cs args.place args.operand, c.in-Variable.is, d, counted width_of ds d) c.named_answer.ensures
 
 pub returns-in-Cell : goal.returns-in-Cell
 unfolding operand_value_broken operand_missing operand_unlike
 returns-in-Cell c =
     let args = c.args in
-    λ ds cs d e. rw (one-operand ds cs args.place args.operand, c.in-Cell.is, e, counted cell_width cs e) c.named_answer-in-Cell.ensures
+    λ ds cs d e. rw (one_operand_lem ds cs args.place args.operand, c.in-Cell.is, e, counted cell_width cs e) c.named_answer-in-Cell.ensures

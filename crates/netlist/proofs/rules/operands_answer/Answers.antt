@@ -2,7 +2,7 @@
 use mathlib.Core.Path.{sym, ap₂, ◌∙◌}
 use mathlib.Core.List.{[], ◌∷◌}
 use Rattle.tagged.specs.Refusals.{lower_refusal}
-use Rattle.netlist.proofs.RuleAnswers.{operands-both}
+use Rattle.netlist.proofs.RuleAnswers.{operands_both}
 use Rattle.netlist.proofs.rules.operands_answer.Goals as goal
 
 pub returns-in-One : goal.returns-in-One
@@ -17,7 +17,7 @@ returns-in-Mux c =
     let args = c.args in
     λ ds cs d e. rw c.in-Mux.is
     (c.or_lower.ensures ∙ ap₂ lower_refusal (operand-answer2.ensures ds cs d e) (c.both_answer-in-Mux.ensures ds cs d e)
-    ∙ sym (operands-both ds cs args.place (_ ∷ []) (_ ∷ _ ∷ [])))
+    ∙ sym (operands_both ds cs args.place (_ ∷ []) (_ ∷ _ ∷ [])))
 
 pub returns-in-Put : goal.returns-in-Put
 returns-in-Put c = λ ds cs d e. rw c.in-Put.is (c.both_answer-in-Put.ensures ds cs d e)

@@ -5,7 +5,7 @@ use Prim.Native.Nat.{◌<◌}
 use mathlib.Core.Path.{refl, sym, ap, ◌∙◌}
 use mathlib.Core.List.{append-nil}
 use Rattle.netlist.proofs.RuleLaws.{counted}
-use Rattle.netlist.proofs.RegisterLaws.{register-listed, input-passed}
+use Rattle.netlist.proofs.RegisterLaws.{register_listed, input_passed}
 use Rattle.tagged.proofs.TableLaws.{mark_of}
 use Rattle.netlist.specs.Rules.{registers_from}
 use native.Mathlib.Omega.{arith}
@@ -34,10 +34,10 @@ loop-at-preserved c =
       λ ds marked.
           elim c.if-marks-at-ne0.branch [
             | then-marks-at-ne0 w ↦
-                rw (w.numbers-is, w.count-is) (register-listed ds args.marks.now marked loop.at loop-test.true loop.numbers loop.count
+                rw (w.numbers-is, w.count-is) (register_listed ds args.marks.now marked loop.at loop-test.true loop.numbers loop.count
                 (loop.invariant.3 ds marked) w.if-marks-at-ne0.true room)
             | else-marks-at-ne0 w ↦
-                rw (w.numbers-is, w.count-is) (input-passed ds args.marks.now marked loop.at loop-test.true loop.numbers loop.count
+                rw (w.numbers-is, w.count-is) (input_passed ds args.marks.now marked loop.at loop-test.true loop.numbers loop.count
                 (loop.invariant.3 ds marked) w.if-marks-at-ne0.false)
           ],
     )

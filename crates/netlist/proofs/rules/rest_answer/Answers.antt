@@ -4,10 +4,10 @@ use native.Mathlib.Omega.{arith}
 use lib.ListN.{length, take}
 use lib.Seq.{length-take-le}
 use Rattle.tagged.specs.Limits.{most_variables}
-use Rattle.tagged.proofs.AllBytesLaws.{read-bytes}
+use Rattle.tagged.proofs.AllBytesLaws.{read_bytes}
 use Rattle.netlist.specs.Reading.{netlist_in}
 use Rattle.netlist.specs.WalkAnswers.{declaring}
-use Rattle.netlist.proofs.RuleParts.{payload-long, first-known, first-few, taken-few, after-asked, netlist-cells, netlist-drives, rest-placed}
+use Rattle.netlist.proofs.RuleParts.{payload_long, first_known, first_few, taken_few, after_asked, netlist_cells, netlist_drives, rest_placed}
 use borrow.Author.Rules.{rules}
 use Rattle.netlist.proofs.rules.rest_answer.Goals as goal
 
@@ -17,7 +17,7 @@ variable_table-table-requires c =
     let pre = c.requires in
     omega (
       arith,
-      payload-long args.file.now (read-bytes args.file.now (search rules)) pre.0 pre.1 c.from-payload.result.now
+      payload_long args.file.now (read_bytes args.file.now (search rules)) pre.0 pre.1 c.from-payload.result.now
           c.from-payload.ensures,
     )
 
@@ -27,7 +27,7 @@ register_numbers-registers-requires c =
     let pre = c.requires in
     let from = c.from-payload in
     let variable-table = c.variable_table-table in
-    first-few args.file.now (read-bytes args.file.now (search rules)) pre.0 pre.1 from.result.now from.ensures
+    first_few args.file.now (read_bytes args.file.now (search rules)) pre.0 pre.1 from.result.now from.ensures
     variable-table.ensures c.front.ensures
 
 pub declared_bytes-bytes-requires : goal.declared_bytes-bytes-requires
@@ -35,7 +35,7 @@ declared_bytes-bytes-requires c =
     let args = c.args in
     let pre = c.requires in
     let from = c.from-payload in
-    omega (arith, payload-long args.file.now (read-bytes args.file.now (search rules)) pre.0 pre.1 from.result.now from.ensures)
+    omega (arith, payload_long args.file.now (read_bytes args.file.now (search rules)) pre.0 pre.1 from.result.now from.ensures)
 
 pub overflow_add-bytes : goal.overflow_add-bytes
 overflow_add-bytes c =
@@ -44,7 +44,7 @@ overflow_add-bytes c =
     let from = c.from-payload in
     omega (
       arith,
-      taken-few args.file.now (read-bytes args.file.now (search rules)) pre.0 pre.1 from.result.now from.ensures
+      taken_few args.file.now (read_bytes args.file.now (search rules)) pre.0 pre.1 from.result.now from.ensures
           c.declared_bytes-bytes.result c.declared_bytes-bytes.ensures c.from-cells.result.now c.from-cells.ensures,
     )
 
@@ -65,29 +65,29 @@ cells_answer-requires c =
     let args = c.args in
     let pre = c.requires in
     let from = c.from-payload in
-    let declared-bytes = c.declared_bytes-bytes in
+    let declared_bytes = c.declared_bytes-bytes in
     let from2 = c.from-cells in
-    after-asked args.file.now (read-bytes args.file.now (search rules)) pre.0 pre.1 from.result.now from.ensures
-    declared-bytes.result declared-bytes.ensures from2.result.now from2.ensures
+    after_asked args.file.now (read_bytes args.file.now (search rules)) pre.0 pre.1 from.result.now from.ensures
+    declared_bytes.result declared_bytes.ensures from2.result.now from2.ensures
 
 pub returns : goal.returns
 returns c =
     let args = c.args in
     let pre = c.requires in
     let from = c.from-payload in
-    let declared-bytes = c.declared_bytes-bytes in
+    let declared_bytes = c.declared_bytes-bytes in
     let from2 = c.from-cells in
     let variable-table = c.variable_table-table in
     let front2 = c.front-2 in
     let front = c.front in
     let register-numbers = c.register_numbers-registers in
     let ds = take most_variables (netlist_in args.file.now).declarations in
-    rest-placed args.file.now (read-bytes args.file.now (search rules)) pre.0 pre.1 from.result.now from.ensures
-    declared-bytes.result declared-bytes.ensures from2.result.now from2.ensures ds
+    rest_placed args.file.now (read_bytes args.file.now (search rules)) pre.0 pre.1 from.result.now from.ensures
+    declared_bytes.result declared_bytes.ensures from2.result.now from2.ensures ds
     (c.cells_answer.ensures (declaring ds (netlist_in args.file.now))
-    (first-known args.file.now (read-bytes args.file.now (search rules)) pre.0 pre.1 from.result.now from.ensures
+    (first_known args.file.now (read_bytes args.file.now (search rules)) pre.0 pre.1 from.result.now from.ensures
     variable-table.ensures front2.ensures front.ensures register-numbers.ensures.1)
-    (netlist-cells args.file.now (read-bytes args.file.now (search rules)) pre.0 pre.1 from.result.now from.ensures
-    declared-bytes.result declared-bytes.ensures from2.result.now from2.ensures)
-    (netlist-drives args.file.now (read-bytes args.file.now (search rules)) pre.0 pre.1 from.result.now from.ensures
-    declared-bytes.result declared-bytes.ensures from2.result.now from2.ensures))
+    (netlist_cells args.file.now (read_bytes args.file.now (search rules)) pre.0 pre.1 from.result.now from.ensures
+    declared_bytes.result declared_bytes.ensures from2.result.now from2.ensures)
+    (netlist_drives args.file.now (read_bytes args.file.now (search rules)) pre.0 pre.1 from.result.now from.ensures
+    declared_bytes.result declared_bytes.ensures from2.result.now from2.ensures))

@@ -7,7 +7,7 @@ use lib.ListN.{length}
 use borrow.Author.Tests.{lt-ltb, le-ltb, leb-true, leb-false}
 use Rattle.tagged.specs.Limits.{most_cells}
 use Rattle.tagged.specs.Refusals.{first_refusal}
-use Rattle.tagged.proofs.ChoiceLaws.{first_taken, second-taken}
+use Rattle.tagged.proofs.ChoiceLaws.{first_taken, second_taken}
 use Rattle.netlist.specs.Rules.{registers_from, whole_broken}
 use Rattle.netlist.specs.WalkAnswers.{whole_answer}
 use Rattle.netlist.proofs.rules.whole_answer.Goals as goal
@@ -38,7 +38,7 @@ returns-in-Refused c =
     let if1 = c.if-drives-registers in
     λ n d r k.
     let many : most_cells < args.cells = leb-false _ _
-    (second-taken (leb args.cells most_cells) _ _ (sym new.ensures ∙ c.in-Refused.is) (λ e. let z : ◌≡◌ {A = ℕ} 0 1 = cc in omega arith)) in
+    (second_taken (leb args.cells most_cells) _ _ (sym new.ensures ∙ c.in-Refused.is) (λ e. let z : ◌≡◌ {A = ℕ} 0 1 = cc in omega arith)) in
     rw (
       le-ltb (length n.drives) (length (registers_from 0 n.declarations)) (omega (arith, d, r, if1.false)),
       lt-ltb most_cells (length n.cells) (omega (arith, k, many)),

@@ -6,7 +6,7 @@ use Rattle.tagged.specs.Bytes.{two_bytes}
 use Rattle.tagged.specs.Fields.{all_bytes_of}
 use Rattle.tagged.proofs.WriteLaws.{wrote_then, wrote_none}
 use Rattle.netlist.specs.Lists.{operand}
-use Rattle.netlist.proofs.PutLaws.{past-operand, wrote-cell}
+use Rattle.netlist.proofs.PutLaws.{past_operand, wrote_cell}
 use Rattle.netlist.proofs.write.put_both.Goals as goal
 
 pub put_operand-next-requires : goal.put_operand-next-requires
@@ -19,7 +19,7 @@ put_operand-requires c =
     let a = c.args in
     let start = c.put_start-past in
     let first = c.put_operand-next in
-    omega (arith, start.ensures.past, past-operand a.first first.ensures)
+    omega (arith, start.ensures.past, past_operand a.first first.ensures)
 
 pub returns : goal.returns
 unfolding all_bytes_of
@@ -28,5 +28,5 @@ returns c =
     let start = c.put_start-past in
     let first = c.put_operand-next in
     let second = c.put_operand in
-    wrote-cell a.sort a.width (operand a.first ∷ operand a.second ∷ []) refl
+    wrote_cell a.sort a.width (operand a.first ∷ operand a.second ∷ []) refl
     start.ensures (wrote_then first.ensures (wrote_then second.ensures wrote_none))

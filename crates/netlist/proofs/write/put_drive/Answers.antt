@@ -6,8 +6,8 @@ use Rattle.tagged.specs.Sorts.{tag_of}
 use Rattle.tagged.specs.declared.sorts.Sort.TheVariants as Sort
 use Rattle.tagged.proofs.WriteLaws.{wrote_then}
 use Rattle.netlist.specs.Form.{operand_bytes, drive_bytes}
-use Rattle.netlist.proofs.CellBytes.{operand-length}
-use Rattle.netlist.proofs.PutLaws.{wrote-field}
+use Rattle.netlist.proofs.CellBytes.{operand_length}
+use Rattle.netlist.proofs.PutLaws.{wrote_field}
 use Rattle.netlist.proofs.write.put_drive.Goals as goal
 
 pub put_byte-next-requires : goal.put_byte-next-requires
@@ -28,5 +28,5 @@ returns c =
     let header = c.put_header-past in
     let variable = c.put_byte-next in
     let operand = c.put_operand in
-    wrote-field (tag_of Sort.Drive) (d.variable ∷ operand_bytes d.operand) (omega (arith, operand-length d.operand))
+    wrote_field (tag_of Sort.Drive) (d.variable ∷ operand_bytes d.operand) (omega (arith, operand_length d.operand))
     header.ensures (wrote_then variable.ensures operand.ensures)

@@ -8,7 +8,7 @@ use Rattle.tagged.specs.declared.sorts.CellSort.TheVariants as CellSort
 use Rattle.tagged.proofs.WriteLaws.{wrote_then, wrote_none}
 use Rattle.netlist.specs.Lists.{operand, byte}
 use Rattle.netlist.specs.Form.{cell_bytes}
-use Rattle.netlist.proofs.PutLaws.{past-operand, wrote-cell}
+use Rattle.netlist.proofs.PutLaws.{past_operand, wrote_cell}
 use Rattle.netlist.proofs.write.put_fixed.Goals as goal
 
 pub put_operand-next-requires : goal.put_operand-next-requires
@@ -21,7 +21,7 @@ put_byte-requires c =
     let a = c.args in
     let start = c.put_start-past in
     let vector = c.put_operand-next in
-    omega (arith, start.ensures.past, past-operand a.vector vector.ensures)
+    omega (arith, start.ensures.past, past_operand a.vector vector.ensures)
 
 pub returns : goal.returns
 unfolding all_bytes_of cell_bytes
@@ -30,5 +30,5 @@ returns c =
     let start = c.put_start-past in
     let vector = c.put_operand-next in
     let number = c.put_byte in
-    wrote-cell CellSort.FixedBit a.width (operand a.vector ∷ byte a.number ∷ []) refl
+    wrote_cell CellSort.FixedBit a.width (operand a.vector ∷ byte a.number ∷ []) refl
     start.ensures (wrote_then vector.ensures (wrote_then number.ensures wrote_none))

@@ -8,7 +8,7 @@ use Rattle.tagged.specs.declared.sorts.CellSort.TheVariants as CellSort
 use Rattle.tagged.proofs.WriteLaws.{wrote_then, wrote_none}
 use Rattle.netlist.specs.Lists.{operand}
 use Rattle.netlist.specs.Form.{cell_bytes}
-use Rattle.netlist.proofs.PutLaws.{past-operand, wrote-cell}
+use Rattle.netlist.proofs.PutLaws.{past_operand, wrote_cell}
 use Rattle.netlist.proofs.write.put_mux.Goals as goal
 
 pub put_operand-next-requires : goal.put_operand-next-requires
@@ -21,7 +21,7 @@ put_operand-last-requires c =
     let a = c.args in
     let start = c.put_start-past in
     let condition = c.put_operand-next in
-    omega (arith, start.ensures.past, past-operand a.condition condition.ensures)
+    omega (arith, start.ensures.past, past_operand a.condition condition.ensures)
 
 pub put_operand-requires : goal.put_operand-requires
 unfolding two_bytes
@@ -30,7 +30,7 @@ put_operand-requires c =
     let start = c.put_start-past in
     let condition = c.put_operand-next in
     let one = c.put_operand-last in
-    omega (arith, start.ensures.past, past-operand a.condition condition.ensures, past-operand a.one one.ensures)
+    omega (arith, start.ensures.past, past_operand a.condition condition.ensures, past_operand a.one one.ensures)
 
 pub returns : goal.returns
 unfolding all_bytes_of cell_bytes
@@ -40,5 +40,5 @@ returns c =
     let condition = c.put_operand-next in
     let one = c.put_operand-last in
     let zero = c.put_operand in
-    wrote-cell CellSort.Mux a.width (operand a.condition ∷ operand a.one ∷ operand a.zero ∷ []) refl
+    wrote_cell CellSort.Mux a.width (operand a.condition ∷ operand a.one ∷ operand a.zero ∷ []) refl
     start.ensures (wrote_then condition.ensures (wrote_then one.ensures (wrote_then zero.ensures wrote_none)))

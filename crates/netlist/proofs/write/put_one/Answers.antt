@@ -8,7 +8,7 @@ use Rattle.tagged.specs.declared.sorts.CellSort.TheVariants as CellSort
 use Rattle.tagged.proofs.WriteLaws.{wrote_then, wrote_none}
 use Rattle.netlist.specs.Lists.{operand}
 use Rattle.netlist.specs.Form.{cell_bytes}
-use Rattle.netlist.proofs.PutLaws.{wrote-cell}
+use Rattle.netlist.proofs.PutLaws.{wrote_cell}
 use Rattle.netlist.proofs.write.put_one.Goals as goal
 
 pub put_operand-requires : goal.put_operand-requires
@@ -21,4 +21,4 @@ returns c =
     let a = c.args in
     let start = c.put_start-past in
     let first = c.put_operand in
-    wrote-cell (CellSort.One a.op) a.width (operand a.first ∷ []) refl start.ensures (wrote_then first.ensures wrote_none)
+    wrote_cell (CellSort.One a.op) a.width (operand a.first ∷ []) refl start.ensures (wrote_then first.ensures wrote_none)

@@ -1,8 +1,8 @@
 -- `netlist::write::put_part` meets its contract: at each turn the bytes passed are written. Assumes nothing.
 use native.Mathlib.Omega.{arith}
 use lib.ListN.{length-take}
-use Rattle.tagged.proofs.WriteLaws.{wrote_none, wrote-length}
-use Rattle.netlist.proofs.PutLaws.{part-turn, part-done}
+use Rattle.tagged.proofs.WriteLaws.{wrote_none, wrote_length}
+use Rattle.netlist.proofs.PutLaws.{part_turn, part_done}
 use Rattle.netlist.proofs.write.put_part.Goals as goal
 
 pub loop-index-init : goal.loop-index-init
@@ -18,13 +18,13 @@ pub loop-index-preserved : goal.loop-index-preserved
 loop-index-preserved c =
     let part = c.args.part.now in
     let l = c.loop-index in
-    part-turn part l.index c.loop-index-test.true l.invariant c.put_byte-place.ensures
+    part_turn part l.index c.loop-index-test.true l.invariant c.put_byte-place.ensures
 
 pub shape_of-out : goal.shape_of-out
-shape_of-out c = wrote-length c.loop-index.invariant
+shape_of-out c = wrote_length c.loop-index.invariant
 
 pub returns : goal.returns
 returns c =
     let part = c.args.part.now in
     let l = c.loop-index in
-    part-done part l.index c.loop-index-test.false l.invariant
+    part_done part l.index c.loop-index-test.false l.invariant

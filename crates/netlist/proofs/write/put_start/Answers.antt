@@ -2,7 +2,7 @@
 use native.Mathlib.Omega.{arith}
 use Rattle.tagged.specs.Bytes.{two_bytes}
 use Rattle.tagged.proofs.WriteLaws.{wrote_then}
-use Rattle.netlist.proofs.PutLaws.{wrote-tagged}
+use Rattle.netlist.proofs.PutLaws.{wrote_tagged}
 use Rattle.netlist.proofs.write.put_start.Goals as goal
 
 pub put_byte-requires : goal.put_byte-requires
@@ -13,4 +13,4 @@ pub returns : goal.returns
 returns c =
     let header = c.put_header-past in
     let width = c.put_byte in
-    wrote-tagged c.tag_of_cell.ensures (wrote_then header.ensures width.ensures)
+    wrote_tagged c.tag_of_cell.ensures (wrote_then header.ensures width.ensures)

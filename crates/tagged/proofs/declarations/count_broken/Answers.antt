@@ -5,7 +5,7 @@ use native.Mathlib.Omega.{arith}
 use lib.Dec.{leb}
 use borrow.Author.Tests.{leb-true, leb-false, le-leb, lt-leb}
 use Rattle.tagged.specs.Limits.{most_variables}
-use Rattle.tagged.proofs.ChoiceLaws.{first_taken, second-taken}
+use Rattle.tagged.proofs.ChoiceLaws.{first_taken, second_taken}
 use Rattle.tagged.proofs.declarations.count_broken.Goals as goal
 
 pub returns-in-Good : goal.returns-in-Good
@@ -17,5 +17,5 @@ returns-in-Good c =
 pub returns-in-Refused : goal.returns-in-Refused
 returns-in-Refused c =
     let refused = sym c.new.ensures ∙ c.in-Refused.is in
-    let many : most_variables < c.args.count + 1 = leb-false _ _ (second-taken (leb (c.args.count + 1) most_variables) _ _ refused (λ e. let z : ◌≡◌ {A = ℕ} 0 1 = cc in omega arith)) in
+    let many : most_variables < c.args.count + 1 = leb-false _ _ (second_taken (leb (c.args.count + 1) most_variables) _ _ refused (λ e. let z : ◌≡◌ {A = ℕ} 0 1 = cc in omega arith)) in
     sym (le-leb most_variables c.args.count (omega arith))

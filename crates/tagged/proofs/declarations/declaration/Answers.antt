@@ -2,26 +2,26 @@
 use mathlib.Core.Path.{sym, ◌∙◌}
 use native.Mathlib.Omega.{arith}
 use Rattle.tagged.specs.Declarations.{declaration_body}
-use Rattle.tagged.proofs.FieldLaws.{open-whole, field-refused, field_past}
+use Rattle.tagged.proofs.FieldLaws.{open_whole, field_refused, field_past}
 use Rattle.tagged.proofs.declarations.declaration.Goals as goal
 
 pub overflow_add-size : goal.overflow_add-size
 overflow_add-size c =
     let args = c.args in
     let open-field = c.open_field in
-    omega (arith, (open-whole _ _ args.part.now (sym open-field.ensures ∙ c.in-Field.is)).within)
+    omega (arith, (open_whole _ _ args.part.now (sym open-field.ensures ∙ c.in-Field.is)).within)
 
 pub slice_bounds-declaration_body-end : goal.slice_bounds-declaration_body-end
 slice_bounds-declaration_body-end c =
     let args = c.args in
     let open-field = c.open_field in
-    omega (arith, (open-whole _ _ args.part.now (sym open-field.ensures ∙ c.in-Field.is)).within)
+    omega (arith, (open_whole _ _ args.part.now (sym open-field.ensures ∙ c.in-Field.is)).within)
 
 pub overflow_add-size-in-Field : goal.overflow_add-size-in-Field
 overflow_add-size-in-Field c =
     let args = c.args in
     let open-field = c.open_field in
-    omega (arith, (open-whole _ _ args.part.now (sym open-field.ensures ∙ c.in-Field.is)).within)
+    omega (arith, (open_whole _ _ args.part.now (sym open-field.ensures ∙ c.in-Field.is)).within)
 
 pub returns-in-Field : goal.returns-in-Field
 returns-in-Field c =
@@ -35,4 +35,4 @@ pub returns-in-Refused : goal.returns-in-Refused
 returns-in-Refused c =
     let args = c.args in
     let open-field = c.open_field in
-    field-refused _ _ args.part.now _ open-field.ensures declaration_body _ c.in-Refused.is
+    field_refused _ _ args.part.now _ open-field.ensures declaration_body _ c.in-Refused.is

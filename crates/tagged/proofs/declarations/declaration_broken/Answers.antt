@@ -5,7 +5,7 @@ use native.Mathlib.Nat.{add-zero}
 use native.Mathlib.Omega.{arith}
 use lib.ListN.{take}
 use Rattle.tagged.specs.Declarations.{declaration_in, declarations_in, declaration_breaks}
-use Rattle.tagged.proofs.DeclarationWalks.{here-within, here-more, here-placed, here-ended, walked_start, walked_more, walked-before, broken-none, broken-here, broken-later}
+use Rattle.tagged.proofs.DeclarationWalks.{here_within, here_more, here_placed, here_ended, walked_start, walked_more, walked_before, broken_none, broken_here, broken_later}
 use borrow.Author.Rules.{rules}
 use Rattle.tagged.proofs.declarations.declaration_broken.Goals as goal
 
@@ -17,15 +17,15 @@ returns-in-Ended c =
     let args = c.args in
     let loop = c.loop-sort in
     let next-declaration = c.next_declaration in
-    broken-none (declaration_breaks args.rule) args.base args.list.now loop.at loop.count loop.invariant.2
-    (here-ended args.list.now _ _ next-declaration.ensures _ c.in-Ended.is)
+    broken_none (declaration_breaks args.rule) args.base args.list.now loop.at loop.count loop.invariant.2
+    (here_ended args.list.now _ _ next-declaration.ensures _ c.in-Ended.is)
 
 pub payload_at-requires : goal.payload_at-requires
 payload_at-requires c =
     let args = c.args in
     let next-declaration = c.next_declaration in
     let pre = c.requires in
-    (omega (arith, here-within args.list.now _ _ next-declaration.ensures _ _ c.in-Declaration.is), omega (arith, pre))
+    (omega (arith, here_within args.list.now _ _ next-declaration.ensures _ _ c.in-Declaration.is), omega (arith, pre))
 
 pub declaration_breaks-requires : goal.declaration_breaks-requires
 declaration_breaks-requires c =
@@ -41,8 +41,8 @@ returns-then-declaration_breaks c =
     let payload-at = c.payload_at in
     let declaration-breaks = c.declaration_breaks in
     let if1 = c.if-declaration_breaks in
-    broken-here (declaration_breaks args.rule) args.base args.list.now loop.at loop.count loop.invariant.2 _ _
-    (here-placed args.list.now _ _ next-declaration.ensures args.base _ _ c.in-Declaration.is)
+    broken_here (declaration_breaks args.rule) args.base args.list.now loop.at loop.count loop.invariant.2 _ _
+    (here_placed args.list.now _ _ next-declaration.ensures args.base _ _ c.in-Declaration.is)
     (ap (λ l. declaration_breaks args.rule (take loop.count (declarations_in args.list.now)) (declaration_in c.in-Declaration.sort l)) (sym payload-at.ensures) ∙ sym declaration-breaks.ensures ∙ if1.true)
 
 pub overflow_add-at : goal.overflow_add-at
@@ -50,14 +50,14 @@ overflow_add-at c =
     let args = c.args in
     let next-declaration = c.next_declaration in
     let pre = c.requires in
-    omega (arith, here-within args.list.now _ _ next-declaration.ensures _ _ c.in-Declaration.is, pre)
+    omega (arith, here_within args.list.now _ _ next-declaration.ensures _ _ c.in-Declaration.is, pre)
 
 pub overflow_add-at-in-Declaration : goal.overflow_add-at-in-Declaration
 overflow_add-at-in-Declaration c =
     let args = c.args in
     let next-declaration = c.next_declaration in
     let pre = c.requires in
-    omega (arith, here-within args.list.now _ _ next-declaration.ensures _ _ c.in-Declaration.is, pre)
+    omega (arith, here_within args.list.now _ _ next-declaration.ensures _ _ c.in-Declaration.is, pre)
 
 pub overflow_add-count : goal.overflow_add-count
 overflow_add-count c =
@@ -69,7 +69,7 @@ pub loop-sort-smaller : goal.loop-sort-smaller
 loop-sort-smaller c =
     let args = c.args in
     let next-declaration = c.next_declaration in
-    omega (arith, here-within args.list.now _ _ next-declaration.ensures _ _ c.in-Declaration.is)
+    omega (arith, here_within args.list.now _ _ next-declaration.ensures _ _ c.in-Declaration.is)
 
 pub loop-sort-preserved : goal.loop-sort-preserved
 loop-sort-preserved c =
@@ -79,11 +79,11 @@ loop-sort-preserved c =
     let payload-at = c.payload_at in
     let declaration-breaks = c.declaration_breaks in
     let if1 = c.if-declaration_breaks in
-    let more = here-more args.list.now _ _ next-declaration.ensures _ _ c.in-Declaration.is in (
-      omega (arith, here-within args.list.now _ _ next-declaration.ensures _ _ c.in-Declaration.is),
+    let more = here_more args.list.now _ _ next-declaration.ensures _ _ c.in-Declaration.is in (
+      omega (arith, here_within args.list.now _ _ next-declaration.ensures _ _ c.in-Declaration.is),
       walked_more args.list.now loop.at loop.count (loop.at + 3 + c.in-Declaration.size) loop.invariant.1 _ more (omega arith),
-      broken-later (declaration_breaks args.rule) args.base args.list.now loop.at loop.count loop.invariant.2 _ _
-          (here-placed args.list.now _ _ next-declaration.ensures args.base _ _ c.in-Declaration.is)
+      broken_later (declaration_breaks args.rule) args.base args.list.now loop.at loop.count loop.invariant.2 _ _
+          (here_placed args.list.now _ _ next-declaration.ensures args.base _ _ c.in-Declaration.is)
           (ap (λ l. declaration_breaks args.rule (take loop.count (declarations_in args.list.now)) (declaration_in c.in-Declaration.sort l)) (sym payload-at.ensures) ∙ sym declaration-breaks.ensures ∙ if1.false)
-          (walked-before args.list.now loop.at loop.count (loop.at + 3 + c.in-Declaration.size) loop.invariant.1 _ more),
+          (walked_before args.list.now loop.at loop.count (loop.at + 3 + c.in-Declaration.size) loop.invariant.1 _ more),
     )

@@ -1,7 +1,7 @@
 -- `tagged::declarations::name_broken` meets its contract: the tests follow the definition. Assumes nothing.
 use mathlib.Core.Path.{sym, ap, ◌∙◌}
 use lib.ListN.{drop}
-use Rattle.tagged.proofs.DeclarationLaws.{name_in_lem, name-good, name-bad}
+use Rattle.tagged.proofs.DeclarationLaws.{name_in_lem, name_good, name_bad}
 use Rattle.tagged.proofs.declarations.name_broken.Goals as goal
 
 pub returns-then-is_name : goal.returns-then-is_name
@@ -13,7 +13,7 @@ returns-then-is_name c =
     let is_name = c.is_name in
     let if1 = c.if-is_name in
     name-taken.ensures ∙ sym
-    (name-good _ _ _ (from.ensures ∙ ap (λ k. drop k args.payload.now) fixed-bytes.ensures ∙ sym (name_in_lem args.sort args.payload.now)) (sym is_name.ensures ∙ if1.true))
+    (name_good _ _ _ (from.ensures ∙ ap (λ k. drop k args.payload.now) fixed-bytes.ensures ∙ sym (name_in_lem args.sort args.payload.now)) (sym is_name.ensures ∙ if1.true))
 
 pub returns-else-is_name : goal.returns-else-is_name
 returns-else-is_name c =
@@ -22,4 +22,4 @@ returns-else-is_name c =
     let fixed-bytes = c.fixed_bytes-fixed in
     let is_name = c.is_name in
     let if1 = c.if-is_name in
-    sym (name-bad _ _ _ (from.ensures ∙ ap (λ k. drop k args.payload.now) fixed-bytes.ensures ∙ sym (name_in_lem args.sort args.payload.now)) (sym is_name.ensures ∙ if1.false))
+    sym (name_bad _ _ _ (from.ensures ∙ ap (λ k. drop k args.payload.now) fixed-bytes.ensures ∙ sym (name_in_lem args.sort args.payload.now)) (sym is_name.ensures ∙ if1.false))

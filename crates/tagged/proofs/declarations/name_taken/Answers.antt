@@ -3,7 +3,7 @@ use mathlib.Core.Path.{refl, ◌∙◌}
 use Prim.Native.Nat.{◌+◌}
 use native.Mathlib.Omega.{arith}
 use lib.ListN.{drop, take}
-use Rattle.tagged.proofs.DeclarationWalks.{here-within, here-more, here-none, taken-done, taken_none, taken_here, taken-later, name-tested}
+use Rattle.tagged.proofs.DeclarationWalks.{here_within, here_more, here_none, taken_done, taken_none, taken_here, taken_later, name_tested}
 use borrow.Author.Rules.{rules}
 use Rattle.tagged.proofs.declarations.name_taken.Goals as goal
 
@@ -15,14 +15,14 @@ returns-in-Ended c =
     let args = c.args in
     let loop = c.loop-left in
     let next-declaration = c.next_declaration in
-    taken_none args.name.now args.list.now args.count loop.at loop.left loop.invariant.1 (here-none args.list.now _ _ next-declaration.ensures c.in-Ended.is)
+    taken_none args.name.now args.list.now args.count loop.at loop.left loop.invariant.1 (here_none args.list.now _ _ next-declaration.ensures c.in-Ended.is)
 
 pub payload_at-requires : goal.payload_at-requires
 payload_at-requires c =
     let args = c.args in
     let next-declaration = c.next_declaration in
     let pre = c.requires in
-    (omega (arith, here-within args.list.now _ _ next-declaration.ensures _ _ c.in-Declaration.is), pre)
+    (omega (arith, here_within args.list.now _ _ next-declaration.ensures _ _ c.in-Declaration.is), pre)
 
 pub returns-then-same_name : goal.returns-then-same_name
 returns-then-same_name c =
@@ -36,22 +36,22 @@ returns-then-same_name c =
     let same_name = c.same_name in
     let if1 = c.if-same_name in
     taken_here args.name.now args.list.now args.count loop.at loop.left loop.invariant.1 loop-test.true _ _
-    (here-more args.list.now _ _ next-declaration.ensures _ _ c.in-Declaration.is)
-    (name-tested c.in-Declaration.sort (take c.in-Declaration.size (drop (loop.at + 3) args.list.now)) _ fixed-bytes.ensures _ payload-at.ensures _ from.ensures args.name.now _ same_name.ensures ∙ if1.true)
+    (here_more args.list.now _ _ next-declaration.ensures _ _ c.in-Declaration.is)
+    (name_tested c.in-Declaration.sort (take c.in-Declaration.size (drop (loop.at + 3) args.list.now)) _ fixed-bytes.ensures _ payload-at.ensures _ from.ensures args.name.now _ same_name.ensures ∙ if1.true)
 
 pub overflow_add-at : goal.overflow_add-at
 overflow_add-at c =
     let args = c.args in
     let next-declaration = c.next_declaration in
     let pre = c.requires in
-    omega (arith, here-within args.list.now _ _ next-declaration.ensures _ _ c.in-Declaration.is, pre)
+    omega (arith, here_within args.list.now _ _ next-declaration.ensures _ _ c.in-Declaration.is, pre)
 
 pub overflow_add-at-in-Declaration : goal.overflow_add-at-in-Declaration
 overflow_add-at-in-Declaration c =
     let args = c.args in
     let next-declaration = c.next_declaration in
     let pre = c.requires in
-    omega (arith, here-within args.list.now _ _ next-declaration.ensures _ _ c.in-Declaration.is, pre)
+    omega (arith, here_within args.list.now _ _ next-declaration.ensures _ _ c.in-Declaration.is, pre)
 
 pub overflow_sub-left : goal.overflow_sub-left
 overflow_sub-left c = omega (arith, c.loop-left-test.true)
@@ -70,10 +70,10 @@ loop-left-preserved c =
     let from = c.from in
     let same_name = c.same_name in
     let if1 = c.if-same_name in (
-      omega (arith, here-within args.list.now _ _ next-declaration.ensures _ _ c.in-Declaration.is),
-      taken-later args.name.now args.list.now args.count loop.at loop.left loop.invariant.1 loop-test.true _ _
-          (here-more args.list.now _ _ next-declaration.ensures _ _ c.in-Declaration.is)
-          (name-tested c.in-Declaration.sort (take c.in-Declaration.size (drop (loop.at + 3) args.list.now)) _ fixed-bytes.ensures _ payload-at.ensures _ from.ensures args.name.now _ same_name.ensures ∙ if1.false),
+      omega (arith, here_within args.list.now _ _ next-declaration.ensures _ _ c.in-Declaration.is),
+      taken_later args.name.now args.list.now args.count loop.at loop.left loop.invariant.1 loop-test.true _ _
+          (here_more args.list.now _ _ next-declaration.ensures _ _ c.in-Declaration.is)
+          (name_tested c.in-Declaration.sort (take c.in-Declaration.size (drop (loop.at + 3) args.list.now)) _ fixed-bytes.ensures _ payload-at.ensures _ from.ensures args.name.now _ same_name.ensures ∙ if1.false),
     )
 
 pub returns : goal.returns
@@ -81,4 +81,4 @@ returns c =
     let args = c.args in
     let loop = c.loop-left in
     let loop-test = c.loop-left-test in
-    taken-done args.name.now args.list.now args.count loop.at loop.left loop.invariant.1 (omega (arith, loop-test.false))
+    taken_done args.name.now args.list.now args.count loop.at loop.left loop.invariant.1 (omega (arith, loop-test.false))

@@ -3,28 +3,28 @@ use mathlib.Core.Path.{sym, ap, ◌∙◌}
 use native.Mathlib.Omega.{arith}
 use lib.ListN.{get_or}
 use Rattle.tagged.specs.Declarations.{declarations_in, register_mark}
-use Rattle.tagged.proofs.DeclarationLaws.{width-in, sort-in}
-use Rattle.tagged.proofs.DeclarationWalks.{here-within, here-more, here-none}
-use Rattle.tagged.proofs.TableLaws.{extend-start, extend-more, extend-done, with-count}
+use Rattle.tagged.proofs.DeclarationLaws.{width_in, sort_in}
+use Rattle.tagged.proofs.DeclarationWalks.{here_within, here_more, here_none}
+use Rattle.tagged.proofs.TableLaws.{extend_start, extend_more, extend_done, with_count}
 use borrow.Author.Rules.{rules}
 use Rattle.tagged.proofs.declarations.variable_table.Goals as goal
 
 pub loop-table-init : goal.loop-table-init
-loop-table-init c = (search rules, search rules, extend-start (declarations_in c.args.list.now))
+loop-table-init c = (search rules, search rules, extend_start (declarations_in c.args.list.now))
 
 pub returns-in-Ended : goal.returns-in-Ended
 returns-in-Ended c =
     let loop = c.loop-table in
     let args = c.args in
     let next-declaration = c.next_declaration in
-    extend-done loop.table _ (here-none args.list.now _ _ next-declaration.ensures c.in-Ended.is) loop.invariant.2
+    extend_done loop.table _ (here_none args.list.now _ _ next-declaration.ensures c.in-Ended.is) loop.invariant.2
 
 pub payload_at-requires : goal.payload_at-requires
 payload_at-requires c =
     let args = c.args in
     let next-declaration = c.next_declaration in
     let pre = c.requires in
-    (omega (arith, here-within args.list.now _ _ next-declaration.ensures _ _ c.in-Declaration.is), pre)
+    (omega (arith, here_within args.list.now _ _ next-declaration.ensures _ _ c.in-Declaration.is), pre)
 
 pub with_variable-table-requires : goal.with_variable-table-requires
 with_variable-table-requires c =
@@ -32,27 +32,27 @@ with_variable-table-requires c =
     let next-declaration = c.next_declaration in
     let loop = c.loop-table in
     let pre = c.requires in
-    omega (arith, here-within args.list.now _ _ next-declaration.ensures _ _ c.in-Declaration.is, loop.invariant.1, pre)
+    omega (arith, here_within args.list.now _ _ next-declaration.ensures _ _ c.in-Declaration.is, loop.invariant.1, pre)
 
 pub overflow_add-at : goal.overflow_add-at
 overflow_add-at c =
     let args = c.args in
     let next-declaration = c.next_declaration in
     let pre = c.requires in
-    omega (arith, here-within args.list.now _ _ next-declaration.ensures _ _ c.in-Declaration.is, pre)
+    omega (arith, here_within args.list.now _ _ next-declaration.ensures _ _ c.in-Declaration.is, pre)
 
 pub overflow_add-at-in-Declaration : goal.overflow_add-at-in-Declaration
 overflow_add-at-in-Declaration c =
     let args = c.args in
     let next-declaration = c.next_declaration in
     let pre = c.requires in
-    omega (arith, here-within args.list.now _ _ next-declaration.ensures _ _ c.in-Declaration.is, pre)
+    omega (arith, here_within args.list.now _ _ next-declaration.ensures _ _ c.in-Declaration.is, pre)
 
 pub loop-table-smaller : goal.loop-table-smaller
 loop-table-smaller c =
     let args = c.args in
     let next-declaration = c.next_declaration in
-    omega (arith, here-within args.list.now _ _ next-declaration.ensures _ _ c.in-Declaration.is)
+    omega (arith, here_within args.list.now _ _ next-declaration.ensures _ _ c.in-Declaration.is)
 
 pub loop-table-preserved : goal.loop-table-preserved
 loop-table-preserved c =
@@ -63,9 +63,9 @@ loop-table-preserved c =
     let byte_at = c.byte_at-width in
     let payload-at = c.payload_at in
     let register-mark = c.register_mark in (
-      omega (arith, here-within args.list.now _ _ next-declaration.ensures _ _ c.in-Declaration.is),
-      omega (arith, with-count _ _ _ _ with-variable.ensures, loop.invariant.1),
-      extend-more loop.table _ _ _ (here-more args.list.now _ _ next-declaration.ensures _ _ c.in-Declaration.is) loop.invariant.2 _ _
-          (byte_at.ensures ∙ ap (λ l. get_or l 0 0) payload-at.ensures ∙ sym (width-in c.in-Declaration.sort _))
-          (register-mark.ensures ∙ ap register_mark (sym (sort-in c.in-Declaration.sort _))) _ with-variable.ensures,
+      omega (arith, here_within args.list.now _ _ next-declaration.ensures _ _ c.in-Declaration.is),
+      omega (arith, with_count _ _ _ _ with-variable.ensures, loop.invariant.1),
+      extend_more loop.table _ _ _ (here_more args.list.now _ _ next-declaration.ensures _ _ c.in-Declaration.is) loop.invariant.2 _ _
+          (byte_at.ensures ∙ ap (λ l. get_or l 0 0) payload-at.ensures ∙ sym (width_in c.in-Declaration.sort _))
+          (register-mark.ensures ∙ ap register_mark (sym (sort_in c.in-Declaration.sort _))) _ with-variable.ensures,
     )

@@ -4,7 +4,7 @@ use Prim.Native.Nat.{ℕ}
 use native.Mathlib.Omega.{arith}
 use Rattle.tagged.specs.Limits.{longest_module}
 use Rattle.tagged.specs.Files.{length_fits, file_answer}
-use Rattle.tagged.proofs.ChoiceLaws.{first_taken, second-taken}
+use Rattle.tagged.proofs.ChoiceLaws.{first_taken, second_taken}
 use Rattle.tagged.proofs.files.module_file.Goals as goal
 
 pub returns-in-Good : goal.returns-in-Good
@@ -17,4 +17,4 @@ pub returns-in-Refused : goal.returns-in-Refused
 unfolding file_answer
 returns-in-Refused c =
     let refused = sym c.new.ensures ∙ c.in-Refused.is in
-    rw (second-taken (length_fits longest_module c.args.file.now) _ _ refused (λ e. let z : ◌≡◌ {A = ℕ} 0 1 = cc in omega arith))
+    rw (second_taken (length_fits longest_module c.args.file.now) _ _ refused (λ e. let z : ◌≡◌ {A = ℕ} 0 1 = cc in omega arith))

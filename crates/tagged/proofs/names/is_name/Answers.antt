@@ -4,7 +4,7 @@ use Prim.Native.Nat.{ℕ}
 use native.Mathlib.Omega.{arith}
 use lib.ListN.{length}
 use Rattle.tagged.specs.Names.{is_name_length, is_name}
-use Rattle.tagged.proofs.ChoiceLaws.{first_taken, second-taken}
+use Rattle.tagged.proofs.ChoiceLaws.{first_taken, second_taken}
 use Rattle.tagged.proofs.names.is_name.Goals as goal
 
 pub returns-then-is_digit : goal.returns-then-is_digit
@@ -36,4 +36,4 @@ returns-in-Refused c =
     let new = c.new in
     let args = c.args in
     let refused = sym new.ensures ∙ c.in-Refused.is in
-    rw (second-taken (is_name_length (length args.name.now)) _ _ refused (λ e. let z : ◌≡◌ {A = ℕ} 0 1 = cc in omega arith))
+    rw (second_taken (is_name_length (length args.name.now)) _ _ refused (λ e. let z : ◌≡◌ {A = ℕ} 0 1 = cc in omega arith))

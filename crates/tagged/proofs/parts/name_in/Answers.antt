@@ -1,8 +1,8 @@
 -- `tagged::parts::name_in` meets its contract: what is still to be passed, from here on, leads to the same declaration. Assumes nothing.
 use native.Mathlib.Nat.{add-zero}
 use native.Mathlib.Omega.{arith}
-use Rattle.tagged.proofs.DeclarationWalks.{here-within}
-use Rattle.tagged.proofs.PartLaws.{name-none, name-short, name-here, name-later}
+use Rattle.tagged.proofs.DeclarationWalks.{here_within}
+use Rattle.tagged.proofs.PartLaws.{name_none, name_short, name_here, name_later}
 use borrow.Author.Rules.{rules}
 use Rattle.tagged.proofs.parts.name_in.Goals as goal
 
@@ -14,7 +14,7 @@ returns-in-Ended c =
     let args = c.args in
     let loop = c.loop-sort in
     let next-declaration = c.next_declaration in
-    name-none args.list.now args.base args.number loop.at loop.left loop.invariant.1 _ next-declaration.ensures c.in-Ended.is
+    name_none args.list.now args.base args.number loop.at loop.left loop.invariant.1 _ next-declaration.ensures c.in-Ended.is
 
 pub returns-then-left-eq0 : goal.returns-then-left-eq0
 returns-then-left-eq0 c =
@@ -24,14 +24,14 @@ returns-then-left-eq0 c =
     let if1 = c.if-left-eq0 in
     let fixed-bytes = c.fixed_bytes-fixed in
     let payload-at = c.payload_at in
-    name-here args.list.now args.base args.number loop.at loop.left loop.invariant.1 _ next-declaration.ensures _ _ c.in-Declaration.is if1.true _ payload-at.ensures _ fixed-bytes.ensures _ c.from-name.ensures
+    name_here args.list.now args.base args.number loop.at loop.left loop.invariant.1 _ next-declaration.ensures _ _ c.in-Declaration.is if1.true _ payload-at.ensures _ fixed-bytes.ensures _ c.from-name.ensures
 
 pub payload_at-requires : goal.payload_at-requires
 payload_at-requires c =
     let args = c.args in
     let pre = c.requires in
     let next-declaration = c.next_declaration in
-    (omega (arith, here-within args.list.now _ _ next-declaration.ensures _ _ c.in-Declaration.is), omega (arith, pre))
+    (omega (arith, here_within args.list.now _ _ next-declaration.ensures _ _ c.in-Declaration.is), omega (arith, pre))
 
 pub overflow_add-result : goal.overflow_add-result
 overflow_add-result c =
@@ -48,35 +48,35 @@ overflow_add-end c =
     let args = c.args in
     let pre = c.requires in
     let next-declaration = c.next_declaration in
-    omega (arith, here-within args.list.now _ _ next-declaration.ensures _ _ c.in-Declaration.is, pre)
+    omega (arith, here_within args.list.now _ _ next-declaration.ensures _ _ c.in-Declaration.is, pre)
 
 pub overflow_add-end-then-left-eq0 : goal.overflow_add-end-then-left-eq0
 overflow_add-end-then-left-eq0 c =
     let args = c.args in
     let pre = c.requires in
     let next-declaration = c.next_declaration in
-    omega (arith, here-within args.list.now _ _ next-declaration.ensures _ _ c.in-Declaration.is, pre)
+    omega (arith, here_within args.list.now _ _ next-declaration.ensures _ _ c.in-Declaration.is, pre)
 
 pub overflow_add-end-then-left-eq0-2 : goal.overflow_add-end-then-left-eq0-2
 overflow_add-end-then-left-eq0-2 c =
     let args = c.args in
     let pre = c.requires in
     let next-declaration = c.next_declaration in
-    omega (arith, here-within args.list.now _ _ next-declaration.ensures _ _ c.in-Declaration.is, pre)
+    omega (arith, here_within args.list.now _ _ next-declaration.ensures _ _ c.in-Declaration.is, pre)
 
 pub overflow_add-at : goal.overflow_add-at
 overflow_add-at c =
     let args = c.args in
     let pre = c.requires in
     let next-declaration = c.next_declaration in
-    omega (arith, here-within args.list.now _ _ next-declaration.ensures _ _ c.in-Declaration.is, pre)
+    omega (arith, here_within args.list.now _ _ next-declaration.ensures _ _ c.in-Declaration.is, pre)
 
 pub overflow_add-at-in-Declaration : goal.overflow_add-at-in-Declaration
 overflow_add-at-in-Declaration c =
     let args = c.args in
     let pre = c.requires in
     let next-declaration = c.next_declaration in
-    omega (arith, here-within args.list.now _ _ next-declaration.ensures _ _ c.in-Declaration.is, pre)
+    omega (arith, here_within args.list.now _ _ next-declaration.ensures _ _ c.in-Declaration.is, pre)
 
 pub overflow_sub-result : goal.overflow_sub-result
 overflow_sub-result c =
@@ -85,17 +85,17 @@ overflow_sub-result c =
     let next-declaration = c.next_declaration in
     let fixed-bytes = c.fixed_bytes-fixed in
     let payload-at = c.payload_at in
-    omega (arith, name-short args.list.now args.base args.number loop.at loop.left loop.invariant.1 _ next-declaration.ensures _ _ c.in-Declaration.is _ _ payload-at.ensures fixed-bytes.result c.from-name.ensures)
+    omega (arith, name_short args.list.now args.base args.number loop.at loop.left loop.invariant.1 _ next-declaration.ensures _ _ c.in-Declaration.is _ _ payload-at.ensures fixed-bytes.result c.from-name.ensures)
 
 pub loop-sort-smaller : goal.loop-sort-smaller
 loop-sort-smaller c =
     let args = c.args in
     let next-declaration = c.next_declaration in
-    omega (arith, here-within args.list.now _ _ next-declaration.ensures _ _ c.in-Declaration.is)
+    omega (arith, here_within args.list.now _ _ next-declaration.ensures _ _ c.in-Declaration.is)
 
 pub loop-sort-preserved : goal.loop-sort-preserved
 loop-sort-preserved c =
     let args = c.args in
     let loop = c.loop-sort in
     let next-declaration = c.next_declaration in
-    (omega (arith, here-within args.list.now _ _ next-declaration.ensures _ _ c.in-Declaration.is), name-later args.list.now args.base args.number loop.at loop.left loop.invariant.1 _ next-declaration.ensures _ _ c.in-Declaration.is c.if-left-eq0.false)
+    (omega (arith, here_within args.list.now _ _ next-declaration.ensures _ _ c.in-Declaration.is), name_later args.list.now args.base args.number loop.at loop.left loop.invariant.1 _ next-declaration.ensures _ _ c.in-Declaration.is c.if-left-eq0.false)

@@ -4,7 +4,7 @@ use native.Mathlib.Nat.{sub-zero}
 use native.Mathlib.Omega.{arith}
 use lib.ListN.{length, length-set}
 use Rattle.tagged.specs.Rows.{row_numbers}
-use Rattle.tagged.proofs.RowLaws.{read-turn, read_done}
+use Rattle.tagged.proofs.RowLaws.{read_turn, read_done}
 use Rattle.tagged.proofs.rows.read_row.Goals as goal
 
 pub loop-at-init : goal.loop-at-init
@@ -15,7 +15,7 @@ loop-at-preserved c =
     let a = c.args in
     let l = c.loop-at in
     let same = l.invariant.0 in
-    (simp length-set same, read-turn a.row.now (length a.values.now) l.at _ _ c.from.ensures c.four_of.ensures (omega arith) l.values same l.invariant.1)
+    (simp length-set same, read_turn a.row.now (length a.values.now) l.at _ _ c.from.ensures c.four_of.ensures (omega arith) l.values same l.invariant.1)
 
 pub returns : goal.returns
 returns c =

@@ -2,8 +2,8 @@
 use native.Mathlib.Omega.{arith}
 use lib.ListN.{take, length-take}
 use Rattle.tagged.specs.Fields.{all_bytes_of}
-use Rattle.tagged.proofs.WriteLaws.{wrote_none, wrote-length}
-use Rattle.tagged.proofs.RowLaws.{bytes-length, write-turn, write_done}
+use Rattle.tagged.proofs.WriteLaws.{wrote_none, wrote_length}
+use Rattle.tagged.proofs.RowLaws.{bytes_length, write_turn, write_done}
 use Rattle.tagged.proofs.rows.write_row.Goals as goal
 
 pub loop-at-init : goal.loop-at-init
@@ -14,16 +14,16 @@ pub put_four-place-requires : goal.put_four-place-requires
 put_four-place-requires c =
     let l = c.loop-at in
     let values = c.args.values.now in
-    omega (arith, l.invariant.past, bytes-length (take l.at values), length-take l.at values)
+    omega (arith, l.invariant.past, bytes_length (take l.at values), length-take l.at values)
 
 pub loop-at-preserved : goal.loop-at-preserved
 loop-at-preserved c =
     let l = c.loop-at in
     let values = c.args.values.now in
-    write-turn values l.at c.loop-at-test.true l.invariant c.put_four-place.ensures
+    write_turn values l.at c.loop-at-test.true l.invariant c.put_four-place.ensures
 
 pub shape_of-next : goal.shape_of-next
-shape_of-next c = wrote-length c.loop-at.invariant
+shape_of-next c = wrote_length c.loop-at.invariant
 
 pub returns : goal.returns
 returns c =

@@ -3,7 +3,7 @@ use mathlib.Core.Path.{◌≡◌, sym, ap, ◌∙◌}
 use native.Mathlib.Omega.{arith}
 use Rattle.tagged.specs.Sorts.{sort_of}
 use Rattle.tagged.specs.declared.sorts.Sort.TheVariants as Sort
-use Rattle.tagged.proofs.SortLaws.{sort-declaration, sort-statement, sort-expression, sort-cell, unknown-05, unknown-18, unknown-2B, unknown-high}
+use Rattle.tagged.proofs.SortLaws.{sort_declaration, sort_statement, sort_expression, sort_cell, unknown_05, unknown_18, unknown_2B, unknown_high}
 use Rattle.tagged.proofs.sorts.sort_of.Goals as goal
 
 pub returns-in-1 : goal.returns-in-1
@@ -31,16 +31,16 @@ unfolding sort_of
 returns-in-129 c = rw c.in-129.is
 
 pub returns-in-2-to-3 : goal.returns-in-2-to-3
-returns-in-2-to-3 c = ap (λ s. Sort.Declaration s) c.declaration_sort.ensures ∙ sym (sort-declaration _ (omega arith) (omega arith))
+returns-in-2-to-3 c = ap (λ s. Sort.Declaration s) c.declaration_sort.ensures ∙ sym (sort_declaration _ (omega arith) (omega arith))
 
 pub returns-in-16-to-21 : goal.returns-in-16-to-21
-returns-in-16-to-21 c = ap (λ s. Sort.Statement s) c.statement_sort.ensures ∙ sym (sort-statement _ (omega arith) (omega arith))
+returns-in-16-to-21 c = ap (λ s. Sort.Statement s) c.statement_sort.ensures ∙ sym (sort_statement _ (omega arith) (omega arith))
 
 pub returns-in-32-to-42 : goal.returns-in-32-to-42
-returns-in-32-to-42 c = ap (λ s. Sort.Expression s) c.expression_sort.ensures ∙ sym (sort-expression _ (omega arith) (omega arith))
+returns-in-32-to-42 c = ap (λ s. Sort.Expression s) c.expression_sort.ensures ∙ sym (sort_expression _ (omega arith) (omega arith))
 
 pub returns-in-48-to-58 : goal.returns-in-48-to-58
-returns-in-48-to-58 c = ap (λ s. Sort.Cell s) c.cell_sort.ensures ∙ sym (sort-cell _ (omega arith) (omega arith))
+returns-in-48-to-58 c = ap (λ s. Sort.Cell s) c.cell_sort.ensures ∙ sym (sort_cell _ (omega arith) (omega arith))
 
 pub returns-in_default : goal.returns-in_default
 unfolding sort_of
@@ -49,13 +49,13 @@ returns-in_default c =
     rw zero
 
 pub returns-in_default-2 : goal.returns-in_default-2
-returns-in_default-2 c = sym (unknown-05 _ (omega arith) (omega arith))
+returns-in_default-2 c = sym (unknown_05 _ (omega arith) (omega arith))
 
 pub returns-in_default-3 : goal.returns-in_default-3
-returns-in_default-3 c = sym (unknown-18 _ (omega arith) (omega arith))
+returns-in_default-3 c = sym (unknown_18 _ (omega arith) (omega arith))
 
 pub returns-in_default-4 : goal.returns-in_default-4
-returns-in_default-4 c = sym (unknown-2B _ (omega arith) (omega arith))
+returns-in_default-4 c = sym (unknown_2B _ (omega arith) (omega arith))
 
 pub returns-in_default-5 : goal.returns-in_default-5
-returns-in_default-5 c = sym (unknown-high _ (omega arith) (λ e. omega arith) (λ e. omega arith))
+returns-in_default-5 c = sym (unknown_high _ (omega arith) (λ e. omega arith) (λ e. omega arith))

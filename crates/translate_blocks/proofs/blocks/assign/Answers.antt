@@ -1,7 +1,7 @@
 -- `translate_blocks::blocks::assign` meets its contract: the slot and the operand are what the calls before the store give. Assumes nothing.
 use mathlib.Core.Path.{ap}
 use lib.ListN.{length, length-drop}
-use Rattle.translate_blocks.proofs.WritingSteps.{assign-done}
+use Rattle.translate_blocks.proofs.WritingSteps.{assign_done}
 use native.Mathlib.Omega.{arith}
 use Rattle.translate_blocks.proofs.blocks.assign.Goals as goal
 
@@ -26,4 +26,4 @@ returns c =
     let slot_of = c.slot_of in
     let pack = c.pack in
     let put_word = c.put_word in
-    assign-done _ _ _ _ _ _ front-words.ensures byte_at.ensures _ from.ensures expression.ensures.emits expression.ensures.is slot_of.ensures pack.ensures put_word.ensures
+    assign_done _ _ _ _ _ _ front-words.ensures byte_at.ensures _ from.ensures expression.ensures.emits expression.ensures.is slot_of.ensures pack.ensures put_word.ensures

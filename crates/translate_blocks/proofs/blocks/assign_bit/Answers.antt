@@ -3,9 +3,9 @@ use mathlib.Core.Path.{ap}
 use mathlib.Core.List.{map}
 use lib.ListN.{length, length-drop}
 use Rattle.translate_blocks.specs.Words.{unpacked}
-use Rattle.translate_blocks.proofs.EmitLaws.{emits-past}
-use Rattle.translate_blocks.proofs.Bounds.{expression-small}
-use Rattle.translate_blocks.proofs.WritingSteps.{assign-bit-done}
+use Rattle.translate_blocks.proofs.EmitLaws.{emits_past}
+use Rattle.translate_blocks.proofs.Bounds.{expression_small}
+use Rattle.translate_blocks.proofs.WritingSteps.{assign_bit_done}
 use native.Mathlib.Omega.{arith}
 use Rattle.translate_blocks.proofs.blocks.assign_bit.Goals as goal
 
@@ -28,10 +28,10 @@ emit-next-requires c =
     let from = c.from in
     let front-words = c.front_words in
     let expression = c.expression-value in
-    let cells = expression-small (map unpacked front-words.result.now) args.depth from.result.now args.cells in
+    let cells = expression_small (map unpacked front-words.result.now) args.depth from.result.now args.cells in
     let size = length-drop 2 args.payload.now in
     let written = expression.ensures.emits in
-    (omega (arith, pre.places, emits-past written, cells, ap length from.ensures, size), omega (arith, pre.numbers, written.counted, cells, ap length from.ensures, size))
+    (omega (arith, pre.places, emits_past written, cells, ap length from.ensures, size), omega (arith, pre.numbers, written.counted, cells, ap length from.ensures, size))
 
 pub returns : goal.returns
 returns c =
@@ -47,4 +47,4 @@ returns c =
     let emit = c.emit-next in
     let pack = c.pack in
     let put_word = c.put_word in
-    assign-bit-done _ _ _ _ _ _ front-words.ensures _ from.ensures expression.ensures.emits expression.ensures.is byte_at.ensures slot_of.ensures word_at.ensures unpack.ensures operand-width.ensures byte-at2.ensures emit.ensures pack.ensures put_word.ensures
+    assign_bit_done _ _ _ _ _ _ front-words.ensures _ from.ensures expression.ensures.emits expression.ensures.is byte_at.ensures slot_of.ensures word_at.ensures unpack.ensures operand-width.ensures byte-at2.ensures emit.ensures pack.ensures put_word.ensures

@@ -1,11 +1,11 @@
 -- `translate_blocks::case_log::log_changes` meets its contract: at each turn the entries passed are logged and set back. Assumes nothing.
 use native.Mathlib.Omega.{arith}
-use Rattle.tagged.proofs.WriteLaws.{wrote-length}
-use Rattle.translate_blocks.proofs.LogSteps.{log-start, log-turn, log-done}
+use Rattle.tagged.proofs.WriteLaws.{wrote_length}
+use Rattle.translate_blocks.proofs.LogSteps.{log_start, log_turn, log_done}
 use Rattle.translate_blocks.proofs.case_log.log_changes.Goals as goal
 
 pub loop-index-init : goal.loop-index-init
-loop-index-init c = log-start _ _ _ _ _ c.requires.0
+loop-index-init c = log_start _ _ _ _ _ c.requires.0
 
 pub offset_bounds-entry-index : goal.offset_bounds-entry-index
 offset_bounds-entry-index c =
@@ -29,7 +29,7 @@ pub log_one-past-requires : goal.log_one-past-requires
 log_one-past-requires c =
     let asked = c.requires in
     let going = c.loop-index in
-    omega (arith, asked.1, asked.2, going.invariant.slots-written.past, going.invariant.few, c.loop-index-test.true)
+    omega (arith, asked.1, asked.2, going.invariant.slots_written.past, going.invariant.few, c.loop-index-test.true)
 
 pub loop-index-preserved : goal.loop-index-preserved
 loop-index-preserved c =
@@ -37,7 +37,7 @@ loop-index-preserved c =
     let inside = c.loop-index-test.true in
     let logged = c.log_one-past in
     let put = c.put_word in
-    log-turn _ _ _ _ _ going.index going.table inside going.invariant logged.ensures.slots_logged logged.ensures.words_logged put.ensures
+    log_turn _ _ _ _ _ going.index going.table inside going.invariant logged.ensures.slots_logged logged.ensures.words_logged put.ensures
 
 pub shape_of-table : goal.shape_of-table
 shape_of-table c =
@@ -45,10 +45,10 @@ shape_of-table c =
     omega (arith, c.loop-index.invariant.long, long)
 
 pub shape_of-slots : goal.shape_of-slots
-shape_of-slots c = wrote-length c.loop-index.invariant.slots-written
+shape_of-slots c = wrote_length c.loop-index.invariant.slots_written
 
 pub shape_of-words : goal.shape_of-words
-shape_of-words c = wrote-length c.loop-index.invariant.words-written
+shape_of-words c = wrote_length c.loop-index.invariant.words_written
 
 pub returns : goal.returns
-returns c = log-done _ _ _ _ _ c.loop-index.table c.loop-index-test.false c.loop-index.invariant
+returns c = log_done _ _ _ _ _ c.loop-index.table c.loop-index-test.false c.loop-index.invariant

@@ -1,7 +1,7 @@
 -- `translate_blocks::case_log::log_one` meets its contract: the test is the definition's. Assumes nothing.
 use Rattle.tagged.proofs.WriteLaws.{wrote_none}
 use Rattle.netlist.proofs.PutLaws.{wrote_as}
-use Rattle.translate_blocks.proofs.LogSteps.{logged-same, logged-other}
+use Rattle.translate_blocks.proofs.LogSteps.{logged_same, logged_other}
 use Rattle.translate_blocks.proofs.case_log.log_one.Goals as goal
 
 pub returns-then-old-word : goal.returns-then-old-word
@@ -9,8 +9,8 @@ returns-then-old-word c =
     let given = c.args in
     let same = c.if-old-word.true in
     record {
-      slots_logged = wrote_as (logged-same given.old given.word given.slot same) wrote_none;
-      words_logged = wrote_as (logged-same given.old given.word given.word same) wrote_none;
+      slots_logged = wrote_as (logged_same given.old given.word given.slot same) wrote_none;
+      words_logged = wrote_as (logged_same given.old given.word given.word same) wrote_none;
     }
 
 pub returns-else-old-word : goal.returns-else-old-word
@@ -20,6 +20,6 @@ returns-else-old-word c =
     let word = c.put_word in
     let slot = c.put_byte in
     record {
-      slots_logged = wrote_as (logged-other given.old given.word given.slot differ) slot.ensures;
-      words_logged = wrote_as (logged-other given.old given.word given.word differ) (record { list = word.ensures; past = slot.ensures.past });
+      slots_logged = wrote_as (logged_other given.old given.word given.slot differ) slot.ensures;
+      words_logged = wrote_as (logged_other given.old given.word given.word differ) (record { list = word.ensures; past = slot.ensures.past });
     }

@@ -5,7 +5,7 @@ use native.Mathlib.Omega.{arith}
 use lib.ListN.{length}
 use lib.Seq.{length-take-le}
 use Rattle.translate_blocks.specs.Log.{mark_at}
-use Rattle.translate_blocks.proofs.LogSteps.{put-copied, mark-merged}
+use Rattle.translate_blocks.proofs.LogSteps.{put_copied, mark_merged}
 use Rattle.translate_blocks.proofs.case_log.merge_mark.Goals as goal
 
 pub slice_bounds-merge-end : goal.slice_bounds-merge-end
@@ -32,8 +32,8 @@ returns c =
     let copied = c.copy_words in
     let put = c.put_changes in
     let merged = c.merge in
-    let side = put-copied (length given.entry.now) given.slots.now given.words.now _ _ _ given.past _ copied.ensures start.ensures put.ensures in
-    let done = mark-merged given.entry.now (mark_at given.slots.now given.words.now given.past) given.table.now given.cells _ _
+    let side = put_copied (length given.entry.now) given.slots.now given.words.now _ _ _ given.past _ copied.ensures start.ensures put.ensures in
+    let done = mark_merged given.entry.now (mark_at given.slots.now given.words.now given.past) given.table.now given.cells _ _
     (ap (λ (word : ℕ). word % 2 ^ 32) number.ensures) side
     (merged.ensures.emits, merged.ensures.table_after) in
     record { emits = done.0; table_after = done.1 }

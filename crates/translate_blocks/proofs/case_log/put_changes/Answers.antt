@@ -3,7 +3,7 @@ use mathlib.Core.Path.{refl, ap₂, ◌∙◌}
 use Prim.Native.Nat.{ℕ}
 use native.Mathlib.Omega.{arith}
 use lib.ListN.{set}
-use Rattle.translate_blocks.proofs.LogSteps.{put-turn, put-done}
+use Rattle.translate_blocks.proofs.LogSteps.{put_turn, put_done}
 use Rattle.translate_blocks.proofs.case_log.put_changes.Goals as goal
 
 pub loop-index-init : goal.loop-index-init
@@ -19,7 +19,7 @@ loop-index-preserved c =
     let word = c.word_at.ensures in
     let put = c.put_word in (
       put.auto.table ∙ going.invariant.0,
-      put-turn given.slots.now given.words.now going.side _ going.index inside (omega (arith, inside, even)) going.invariant.1
+      put_turn given.slots.now given.words.now going.side _ going.index inside (omega (arith, inside, even)) going.invariant.1
           (put.ensures ∙ ap₂ (λ (s w : ℕ). set going.side s w) slot word),
     )
 
@@ -30,4 +30,4 @@ pub returns : goal.returns
 returns c =
     let given = c.args in
     let going = c.loop-index in
-    put-done given.slots.now given.words.now going.side _ going.index c.loop-index-test.false going.invariant.1
+    put_done given.slots.now given.words.now going.side _ going.index c.loop-index-test.false going.invariant.1

@@ -2,21 +2,21 @@
 use mathlib.Core.Path.{sym, ◌∙◌}
 use native.Mathlib.Omega.{arith}
 use Rattle.translate_blocks.specs.Log.{Mark, merge_mark, mark_at}
-use Rattle.translate_blocks.proofs.EmitLaws.{emits-length, emits-past}
-use Rattle.translate_blocks.proofs.LogSteps.{unwind-start, unwind-safe, unwind-turn, unwind-done, mark-few}
+use Rattle.translate_blocks.proofs.EmitLaws.{emits_length, emits_past}
+use Rattle.translate_blocks.proofs.LogSteps.{unwind_start, unwind_safe, unwind_turn, unwind_done, mark_few}
 use Rattle.translate_blocks.proofs.case_log.unwind.Goals as goal
 
 pub loop-past-init : goal.loop-past-init
 loop-past-init c =
     let asked = c.requires in
-    (asked.1, asked.2.1.rising, omega arith, omega arith, λ marks f. unwind-start _ _ _ _ _ _ _ _ _ f)
+    (asked.1, asked.2.1.rising, omega arith, omega arith, λ marks f. unwind_start _ _ _ _ _ _ _ _ _ f)
 
 pub merge_mark-next-requires : goal.merge_mark-next-requires
 merge_mark-next-requires c =
     let asked = c.requires in
     let going = c.loop-past in
     let inside = c.loop-past-test.true in
-    let safe = unwind-safe _ _ _ _ _ _ _ _ _ (going.invariant.4 asked.2.0 asked.2.1) inside in (
+    let safe = unwind_safe _ _ _ _ _ _ _ _ _ (going.invariant.4 asked.2.0 asked.2.1) inside in (
       omega (arith, asked.4, going.invariant.2, inside),
       omega (arith, asked.3, going.invariant.3, inside),
       asked.0,
@@ -31,7 +31,7 @@ mark_start-past-requires c =
     let asked = c.requires in
     let going = c.loop-past in
     let inside = c.loop-past-test.true in
-    let safe = unwind-safe _ _ _ _ _ _ _ _ _ (going.invariant.4 asked.2.0 asked.2.1) inside in
+    let safe = unwind_safe _ _ _ _ _ _ _ _ _ (going.invariant.4 asked.2.0 asked.2.1) inside in
     omega (arith, safe.0)
 
 pub loop-past-smaller : goal.loop-past-smaller
@@ -39,7 +39,7 @@ loop-past-smaller c =
     let asked = c.requires in
     let going = c.loop-past in
     let inside = c.loop-past-test.true in
-    let safe = unwind-safe _ _ _ _ _ _ _ _ _ (going.invariant.4 asked.2.0 asked.2.1) inside in
+    let safe = unwind_safe _ _ _ _ _ _ _ _ _ (going.invariant.4 asked.2.0 asked.2.1) inside in
     omega (arith, c.mark_start-past.ensures, safe.0, inside)
 
 pub loop-past-preserved : goal.loop-past-preserved
@@ -48,23 +48,23 @@ loop-past-preserved c =
     let asked = c.requires in
     let going = c.loop-past in
     let inside = c.loop-past-test.true in
-    let safe = unwind-safe _ _ _ _ _ _ _ _ _ (going.invariant.4 asked.2.0 asked.2.1) inside in
+    let safe = unwind_safe _ _ _ _ _ _ _ _ _ (going.invariant.4 asked.2.0 asked.2.1) inside in
     let start = c.mark_start-past.ensures in
     let merged = c.merge_mark-next in
     let mark : Mark = mark_at given.slots.now given.words.now going.past in
-    let few = mark-few given.entry.now mark going.table going.count in
-    let further = emits-past {cells = (merge_mark given.entry.now mark going.table going.count).cells} merged.ensures.emits in (
+    let few = mark_few given.entry.now mark going.table going.count in
+    let further = emits_past {cells = (merge_mark given.entry.now mark going.table going.count).cells} merged.ensures.emits in (
       omega (arith, merged.auto, going.invariant.0),
       omega (arith, start, safe.0),
       omega (arith, further, few, asked.0, start, safe.0, going.invariant.2),
       omega (arith, merged.ensures.emits.counted, few, asked.0, start, safe.0, going.invariant.3),
-      λ marks f. unwind-turn _ _ _ _ _ _ _ _ _ (going.invariant.4 marks f) inside start merged.ensures.emits merged.ensures.table_after,
+      λ marks f. unwind_turn _ _ _ _ _ _ _ _ _ (going.invariant.4 marks f) inside start merged.ensures.emits merged.ensures.table_after,
     )
 
 pub shape_of-out : goal.shape_of-out
 shape_of-out c =
     let asked = c.requires in
-    emits-length (c.loop-past.invariant.4 asked.2.0 asked.2.1).emitted
+    emits_length (c.loop-past.invariant.4 asked.2.0 asked.2.1).emitted
 
 pub shape_of-table : goal.shape_of-table
 shape_of-table c =
@@ -72,4 +72,4 @@ shape_of-table c =
     c.loop-past.invariant.0 ∙ sym asked.1
 
 pub returns : goal.returns
-returns c = λ marks f. unwind-done _ _ _ _ _ _ _ _ _ (c.loop-past.invariant.4 marks f) c.loop-past-test.false
+returns c = λ marks f. unwind_done _ _ _ _ _ _ _ _ _ (c.loop-past.invariant.4 marks f) c.loop-past-test.false

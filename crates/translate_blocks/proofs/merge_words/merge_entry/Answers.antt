@@ -3,15 +3,15 @@ use mathlib.Core.Path.{sym, ap, ◌∙◌}
 use mathlib.Core.List.{[], ◌∷◌}
 use Prim.Native.Nat.{ℕ}
 use Rattle.translate_blocks.specs.Words.{Written}
-use Rattle.translate_blocks.proofs.EmitLaws.{emits_none, emits-as}
-use Rattle.translate_blocks.proofs.MergingSteps.{entry-same, entry_other}
+use Rattle.translate_blocks.proofs.EmitLaws.{emits_none, emits_as}
+use Rattle.translate_blocks.proofs.MergingSteps.{entry_same, entry_other}
 use Rattle.translate_blocks.proofs.merge_words.merge_entry.Goals as goal
 
 pub returns-then-first-second : goal.returns-then-first-second
 returns-then-first-second c =
     let entry = c.args in
-    let same = entry-same entry.condition entry.cells entry.first entry.second c.if-first-second.true in
-    record { emits = emits-as (ap (λ (m : Written). m.cells) same) emits_none; word_value = sym (ap (λ (m : Written). m.table) same) }
+    let same = entry_same entry.condition entry.cells entry.first entry.second c.if-first-second.true in
+    record { emits = emits_as (ap (λ (m : Written). m.cells) same) emits_none; word_value = sym (ap (λ (m : Written). m.table) same) }
 
 pub returns-else-first-second : goal.returns-else-first-second
 returns-else-first-second c =
@@ -20,6 +20,6 @@ returns-else-first-second c =
     let mux = c.mux_entry in
     let other = entry_other entry.condition entry.cells entry.first entry.second differ in
     record {
-      emits = emits-as (ap (λ (m : Written). m.cells) other) mux.ensures.emits;
+      emits = emits_as (ap (λ (m : Written). m.cells) other) mux.ensures.emits;
       word_value = ap (λ (n : ℕ). n ∷ []) mux.ensures.word_value ∙ sym (ap (λ (m : Written). m.table) other);
     }

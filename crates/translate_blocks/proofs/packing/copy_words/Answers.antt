@@ -2,7 +2,7 @@
 use mathlib.Core.Path.{refl, ap, ◌∙◌}
 use native.Mathlib.Omega.{arith}
 use lib.ListN.{set}
-use Rattle.translate_blocks.proofs.PackingLaws.{copy-turn, copy_done}
+use Rattle.translate_blocks.proofs.PackingLaws.{copy_turn, copy_done}
 use Rattle.translate_blocks.proofs.packing.copy_words.Goals as goal
 
 pub loop-index-init : goal.loop-index-init
@@ -18,7 +18,7 @@ loop-index-preserved c =
     let put = c.put_word in (
       omega (arith, inside),
       put.auto.table ∙ going.invariant.1,
-      copy-turn going.copy words going.index inside (omega (arith, inside, room, going.invariant.1)) going.invariant.2
+      copy_turn going.copy words going.index inside (omega (arith, inside, room, going.invariant.1)) going.invariant.2
           (put.ensures ∙ ap (set going.copy going.index) read),
     )
 

@@ -1,7 +1,7 @@
 -- `verilog_check::judge::assigns_missing` meets its contract: each arm is the statement that the match found. Assumes nothing.
 use lib.Dec.{eqb}
 use lib.ListN.{get_or}
-use Rattle.verilog_check.proofs.OtherArms.{no-assignment}
+use Rattle.verilog_check.proofs.OtherArms.{no_assignment}
 use Rattle.verilog_check.proofs.judge.assigns_missing.Goals as goal
 
 pub returns-in-Assign : goal.returns-in-Assign
@@ -17,4 +17,4 @@ returns-in-AssignBit c =
 pub returns-in_default : goal.returns-in_default
 returns-in_default c =
     let args = c.args in
-    no-assignment args.depth args.payload.now (λ kind v. eqb (get_or args.marks.now v 0) 0) args.sort c.in_default.not-Assign c.in_default.not-AssignBit
+    no_assignment args.depth args.payload.now (λ kind v. eqb (get_or args.marks.now v 0) 0) args.sort c.in_default.not-Assign c.in_default.not-AssignBit

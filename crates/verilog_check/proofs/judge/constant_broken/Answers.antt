@@ -4,8 +4,8 @@ use mathlib.Core.Bool.{not}
 use Prim.Native.Nat.{ℕ}
 use native.Mathlib.Omega.{arith}
 use Rattle.words.specs.Widths.{is_width}
-use Rattle.tagged.proofs.ChoiceLaws.{first_taken, second-taken}
-use Rattle.verilog_check.proofs.OtherArms.{no-constant}
+use Rattle.tagged.proofs.ChoiceLaws.{first_taken, second_taken}
+use Rattle.verilog_check.proofs.OtherArms.{no_constant}
 use Rattle.verilog_check.proofs.judge.constant_broken.Goals as goal
 
 pub returns-in-Good : goal.returns-in-Good
@@ -20,10 +20,10 @@ pub returns-in-Refused : goal.returns-in-Refused
 returns-in-Refused c =
     let width = c.byte_at-width in
     let answer = sym c.new.ensures ∙ c.in-Refused.is in
-    let bad = second-taken (is_width width.result) _ _ answer (λ e. let z : ◌≡◌ {A = ℕ} 0 1 = cc in omega arith) in
+    let bad = second_taken (is_width width.result) _ _ answer (λ e. let z : ◌≡◌ {A = ℕ} 0 1 = cc in omega arith) in
     rw (c.in-Constant.is, ← width.ensures, bad)
 
 pub returns-in_default : goal.returns-in_default
 returns-in_default c =
     let args = c.args in
-    no-constant args.depth args.payload.now args.sort c.in_default.not-Constant
+    no_constant args.depth args.payload.now args.sort c.in_default.not-Constant

@@ -1,6 +1,6 @@
 -- `verilog_check::judge::kind_differs` meets its contract: each arm is the statement that the match found. Assumes nothing.
 use Rattle.verilog_check.specs.Tables.{other_kind}
-use Rattle.verilog_check.proofs.OtherArms.{no-assignment}
+use Rattle.verilog_check.proofs.OtherArms.{no_assignment}
 use Rattle.verilog_check.proofs.judge.kind_differs.Goals as goal
 
 pub returns-in-Assign : goal.returns-in-Assign
@@ -18,4 +18,4 @@ returns-in-AssignBit c =
 pub returns-in_default : goal.returns-in_default
 returns-in_default c =
     let args = c.args in
-    no-assignment args.depth args.payload.now (other_kind args.firsts.now) args.sort c.in_default.not-Assign c.in_default.not-AssignBit
+    no_assignment args.depth args.payload.now (other_kind args.firsts.now) args.sort c.in_default.not-Assign c.in_default.not-AssignBit

@@ -1,6 +1,6 @@
 -- `verilog_check::judge::process_differs` meets its contract: each arm is the statement that the match found. Assumes nothing.
 use Rattle.verilog_check.specs.Tables.{other_process}
-use Rattle.verilog_check.proofs.OtherArms.{no-assignment}
+use Rattle.verilog_check.proofs.OtherArms.{no_assignment}
 use Rattle.verilog_check.proofs.judge.process_differs.Goals as goal
 
 pub returns-in-Assign : goal.returns-in-Assign
@@ -16,4 +16,4 @@ returns-in-AssignBit c =
 pub returns-in_default : goal.returns-in_default
 returns-in_default c =
     let args = c.args in
-    no-assignment args.depth args.payload.now (λ kind v. other_process args.firsts.now args.process v) args.sort c.in_default.not-Assign c.in_default.not-AssignBit
+    no_assignment args.depth args.payload.now (λ kind v. other_process args.firsts.now args.process v) args.sort c.in_default.not-Assign c.in_default.not-AssignBit

@@ -1,7 +1,7 @@
 -- `verilog_check::judge::reads_outside` meets its contract: the vector's width from the table, against the bit number or the index. Assumes nothing.
 use Rattle.verilog_check.specs.Tables.{variables_of}
 use Rattle.verilog_check.proofs.TableWidths.{width_read}
-use Rattle.verilog_check.proofs.OtherArms.{no-bit}
+use Rattle.verilog_check.proofs.OtherArms.{no_bit}
 use Rattle.verilog_check.proofs.judge.reads_outside.Goals as goal
 
 pub returns-in-FixedBit : goal.returns-in-FixedBit
@@ -23,4 +23,4 @@ returns-in-ChosenBit c =
 pub returns-in_default : goal.returns-in_default
 returns-in_default c =
     let args = c.args in
-    no-bit args.depth args.payload.now (variables_of args.widths.now) args.sort c.in_default.not-FixedBit c.in_default.not-ChosenBit
+    no_bit args.depth args.payload.now (variables_of args.widths.now) args.sort c.in_default.not-FixedBit c.in_default.not-ChosenBit

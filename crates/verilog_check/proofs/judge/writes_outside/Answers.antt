@@ -1,7 +1,7 @@
 -- `verilog_check::judge::writes_outside` meets its contract: the vector's width from the table, against the bit number. Assumes nothing.
 use Rattle.verilog_check.specs.Tables.{variables_of}
 use Rattle.verilog_check.proofs.TableWidths.{width_read}
-use Rattle.verilog_check.proofs.OtherArms.{no-bit-write}
+use Rattle.verilog_check.proofs.OtherArms.{no_bit_write}
 use Rattle.verilog_check.proofs.judge.writes_outside.Goals as goal
 
 pub returns-in-AssignBit : goal.returns-in-AssignBit
@@ -15,4 +15,4 @@ returns-in-AssignBit c =
 pub returns-in_default : goal.returns-in_default
 returns-in_default c =
     let args = c.args in
-    no-bit-write args.depth args.payload.now (variables_of args.widths.now) args.sort c.in_default.not-AssignBit
+    no_bit_write args.depth args.payload.now (variables_of args.widths.now) args.sort c.in_default.not-AssignBit

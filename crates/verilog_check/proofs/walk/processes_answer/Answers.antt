@@ -1,7 +1,7 @@
 -- `verilog_check::walk::processes_answer` meets its contract: what is passed and the rest together give what the whole does. Assumes nothing.
 use native.Mathlib.Nat.{add-zero}
-use Rattle.tagged.proofs.FieldLists.{field-within}
-use Rattle.verilog_check.proofs.WalkSteps.{payload-within, process-steps, walk-done, walk-next}
+use Rattle.tagged.proofs.FieldLists.{field_within}
+use Rattle.verilog_check.proofs.WalkSteps.{payload_within, process_steps, walk_done, walk_next}
 use borrow.Author.Rules.{rules}
 use native.Mathlib.Omega.{arith}
 use Rattle.verilog_check.proofs.walk.processes_answer.Goals as goal
@@ -15,7 +15,7 @@ payload_at-payload-requires c = (
     arith,
     (let args = c.args in
         let open-field = c.open_field in
-        field-within args.list.now _ _ open-field.ensures _ _ c.in-Field.is),
+        field_within args.list.now _ _ open-field.ensures _ _ c.in-Field.is),
   ),
   search rules,
 )
@@ -26,14 +26,14 @@ overflow_add-base c =
       arith,
       (let args = c.args in
           let open-field = c.open_field in
-          field-within args.list.now _ _ open-field.ensures _ _ c.in-Field.is),
+          field_within args.list.now _ _ open-field.ensures _ _ c.in-Field.is),
     )
 
 pub process_answer-field-requires : goal.process_answer-field-requires
 process_answer-field-requires c =
     let args = c.args in
     let open-field = c.open_field in
-    (search rules, omega (arith, payload-within args.list.now _ _ open-field.ensures _ _ c.in-Field.is _ c.payload_at-payload.ensures))
+    (search rules, omega (arith, payload_within args.list.now _ _ open-field.ensures _ _ c.in-Field.is _ c.payload_at-payload.ensures))
 
 pub overflow_add-at : goal.overflow_add-at
 overflow_add-at c =
@@ -41,7 +41,7 @@ overflow_add-at c =
       arith,
       (let args = c.args in
           let open-field = c.open_field in
-          field-within args.list.now _ _ open-field.ensures _ _ c.in-Field.is),
+          field_within args.list.now _ _ open-field.ensures _ _ c.in-Field.is),
     )
 
 pub overflow_add-at-in-Field : goal.overflow_add-at-in-Field
@@ -50,7 +50,7 @@ overflow_add-at-in-Field c =
       arith,
       (let args = c.args in
           let open-field = c.open_field in
-          field-within args.list.now _ _ open-field.ensures _ _ c.in-Field.is),
+          field_within args.list.now _ _ open-field.ensures _ _ c.in-Field.is),
     )
 
 pub overflow_add-process : goal.overflow_add-process
@@ -59,7 +59,7 @@ overflow_add-process c =
       arith,
       (let args = c.args in
           let open-field = c.open_field in
-          field-within args.list.now _ _ open-field.ensures _ _ c.in-Field.is),
+          field_within args.list.now _ _ open-field.ensures _ _ c.in-Field.is),
     )
 
 pub loop-sort-smaller : goal.loop-sort-smaller
@@ -68,7 +68,7 @@ loop-sort-smaller c =
       arith,
       (let args = c.args in
           let open-field = c.open_field in
-          field-within args.list.now _ _ open-field.ensures _ _ c.in-Field.is),
+          field_within args.list.now _ _ open-field.ensures _ _ c.in-Field.is),
     )
 
 pub loop-sort-preserved : goal.loop-sort-preserved
@@ -81,19 +81,19 @@ loop-sort-preserved c =
         arith,
         (let args = c.args in
             let open-field = c.open_field in
-            field-within args.list.now _ _ open-field.ensures _ _ c.in-Field.is),
+            field_within args.list.now _ _ open-field.ensures _ _ c.in-Field.is),
       ),
       omega (
         arith,
         (let args = c.args in
             let open-field = c.open_field in
-            field-within args.list.now _ _ open-field.ensures _ _ c.in-Field.is),
+            field_within args.list.now _ _ open-field.ensures _ _ c.in-Field.is),
       ),
-      walk-next (process-steps _ _ _) _ loop.best _ _ _ loop.invariant.2 _ open-field.ensures _ _ c.in-Field.is _ payload-at.ensures _ process-answer.ensures _ c.or_lower-best.ensures,
+      walk_next (process_steps _ _ _) _ loop.best _ _ _ loop.invariant.2 _ open-field.ensures _ _ c.in-Field.is _ payload-at.ensures _ process-answer.ensures _ c.or_lower-best.ensures,
     )
 
 pub returns-in-Refused : goal.returns-in-Refused
 returns-in-Refused c =
     let loop = c.loop-sort in
     let open-field = c.open_field in
-    walk-done (process-steps _ _ _) _ loop.best _ _ _ loop.invariant.2 _ open-field.ensures _ c.in-Refused.is
+    walk_done (process_steps _ _ _) _ loop.best _ _ _ loop.invariant.2 _ open-field.ensures _ c.in-Refused.is

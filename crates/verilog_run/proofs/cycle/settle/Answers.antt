@@ -2,7 +2,7 @@
 use mathlib.Core.Path.{refl}
 use lib.ListN.{length-set}
 use Rattle.verilog_run.specs.Execution.{delayed_by}
-use Rattle.verilog_run.proofs.SettledLaws.{settled-turn, settled-done}
+use Rattle.verilog_run.proofs.SettledLaws.{settled_turn, settled_done}
 use Rattle.verilog_run.proofs.cycle.settle.Goals as goal
 
 pub loop-at-init : goal.loop-at-init
@@ -13,10 +13,10 @@ loop-at-preserved c =
     let args = c.args in
     let loop = c.loop-at in
     let loop-test = c.loop-at-test in
-    (simp length-set loop.invariant.0, settled-turn (delayed_by args.firsts.now) args.pending.now loop.current loop.at loop.invariant.1 loop-test.true _ c.new_number-number.ensures)
+    (simp length-set loop.invariant.0, settled_turn (delayed_by args.firsts.now) args.pending.now loop.current loop.at loop.invariant.1 loop-test.true _ c.new_number-number.ensures)
 
 pub returns : goal.returns
 returns c =
     let args = c.args in
     let loop = c.loop-at in
-    settled-done (delayed_by args.firsts.now) args.pending.now loop.current loop.at loop.invariant.1 c.loop-at-test.false
+    settled_done (delayed_by args.firsts.now) args.pending.now loop.current loop.at loop.invariant.1 c.loop-at-test.false

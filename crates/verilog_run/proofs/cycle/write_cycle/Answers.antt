@@ -4,11 +4,11 @@ use native.Mathlib.Omega.{arith}
 use lib.ListN.{length, length-take}
 use lib.Seq.{length-take-le}
 use Rattle.tagged.specs.Declarations.{declarations_in}
-use Rattle.tagged.proofs.AllBytesLaws.{read-bytes}
-use Rattle.tagged.proofs.RowLaws.{numbers-length}
-use Rattle.tagged.proofs.TableLaws.{count_fits, zeros-at}
-use Rattle.verilog_check.proofs.AcceptedFile.{payload-short, variables-told, widths-room}
-use Rattle.verilog_run.proofs.CycleWritten.{processes-long, cycle-written}
+use Rattle.tagged.proofs.AllBytesLaws.{read_bytes}
+use Rattle.tagged.proofs.RowLaws.{numbers_length}
+use Rattle.tagged.proofs.TableLaws.{count_fits, zeros_at}
+use Rattle.verilog_check.proofs.AcceptedFile.{payload_short, variables_told, widths_room}
+use Rattle.verilog_run.proofs.CycleWritten.{processes_long, cycle_written}
 use borrow.Author.Rules.{rules}
 use Rattle.verilog_run.proofs.cycle.write_cycle.Goals as goal
 
@@ -16,26 +16,26 @@ pub declared_bytes-requires : goal.declared_bytes-requires
 declared_bytes-requires c =
     let args = c.args in
     let pre = c.requires in
-    omega (arith, payload-short args.file.now pre.0 c.from-payload.result.now c.from-payload.ensures)
+    omega (arith, payload_short args.file.now pre.0 c.from-payload.result.now c.from-payload.ensures)
 
 pub variable_table-table-requires : goal.variable_table-table-requires
 variable_table-table-requires c =
     let args = c.args in
     let pre = c.requires in
     let from = c.from-payload in
-    omega (arith, payload-short args.file.now pre.0 from.result.now from.ensures)
+    omega (arith, payload_short args.file.now pre.0 from.result.now from.ensures)
 
 pub survey-requires : goal.survey-requires
 survey-requires c =
     let args = c.args in
     let pre = c.requires in
     let from = c.from-payload in
-    let declared-bytes = c.declared_bytes in
+    let declared_bytes = c.declared_bytes in
     let from2 = c.from-list in
     omega (
       arith,
-      processes-long args.file.now args.row.now args.next.now (read-bytes args.file.now (search rules)) pre.0 pre.1
-          from.result.now from.ensures declared-bytes.result declared-bytes.ensures from2.result.now from2.ensures,
+      processes_long args.file.now args.row.now args.next.now (read_bytes args.file.now (search rules)) pre.0 pre.1
+          from.result.now from.ensures declared_bytes.result declared_bytes.ensures from2.result.now from2.ensures,
     )
 
 pub slice_bounds-widths-end : goal.slice_bounds-widths-end
@@ -44,7 +44,7 @@ slice_bounds-widths-end c =
     let pre = c.requires in
     let from = c.from-payload in
     let variable-table = c.variable_table-table in
-    widths-room args.file.now pre.0 _ from.ensures variable-table.result variable-table.ensures
+    widths_room args.file.now pre.0 _ from.ensures variable-table.result variable-table.ensures
 
 pub slice_bounds-run_processes-end : goal.slice_bounds-run_processes-end
 slice_bounds-run_processes-end c =
@@ -53,7 +53,7 @@ slice_bounds-run_processes-end c =
     let from = c.from-payload in
     let variable-table = c.variable_table-table in
     sym (length-take-le variable-table.result.count variable-table.result.widths
-    (widths-room args.file.now pre.0 _ from.ensures variable-table.result variable-table.ensures))
+    (widths_room args.file.now pre.0 _ from.ensures variable-table.result variable-table.ensures))
 
 pub slice_bounds-current-end : goal.slice_bounds-current-end
 slice_bounds-current-end c =
@@ -65,8 +65,8 @@ slice_bounds-current-end c =
     omega (
       arith,
       count_fits (declarations_in from.result.now) variable-table.result variable-table.ensures
-          (variables-told args.file.now pre.0 from.result.now from.ensures),
-      numbers-length 64 args.row.now,
+          (variables_told args.file.now pre.0 from.result.now from.ensures),
+      numbers_length 64 args.row.now,
       ap length read-row.ensures,
     )
 
@@ -81,8 +81,8 @@ slice_bounds-run_processes-end-3 c =
     (omega (
       arith,
       count_fits (declarations_in from.result.now) variable-table.result variable-table.ensures
-          (variables-told args.file.now pre.0 from.result.now from.ensures),
-      numbers-length 64 args.row.now,
+          (variables_told args.file.now pre.0 from.result.now from.ensures),
+      numbers_length 64 args.row.now,
       ap length read-row.ensures,
     )))
 
@@ -96,8 +96,8 @@ slice_bounds-pending-end c =
     omega (
       arith,
       count_fits (declarations_in from.result.now) variable-table.result variable-table.ensures
-          (variables-told args.file.now pre.0 from.result.now from.ensures),
-      numbers-length 64 args.row.now,
+          (variables_told args.file.now pre.0 from.result.now from.ensures),
+      numbers_length 64 args.row.now,
       ap length read-row.ensures,
     )
 
@@ -112,8 +112,8 @@ slice_bounds-run_processes-end-4 c =
     (omega (
       arith,
       count_fits (declarations_in from.result.now) variable-table.result variable-table.ensures
-          (variables-told args.file.now pre.0 from.result.now from.ensures),
-      numbers-length 64 args.row.now,
+          (variables_told args.file.now pre.0 from.result.now from.ensures),
+      numbers_length 64 args.row.now,
       ap length read-row.ensures,
     )))
 
@@ -122,19 +122,19 @@ run_processes-requires c =
     let args = c.args in
     let pre = c.requires in
     let from = c.from-payload in
-    let declared-bytes = c.declared_bytes in
+    let declared_bytes = c.declared_bytes in
     let from2 = c.from-list in
     let variable-table = c.variable_table-table in
     let read-row = c.read_row in (
       omega (
         arith,
-        processes-long args.file.now args.row.now args.next.now (read-bytes args.file.now (search rules)) pre.0 pre.1
-            from.result.now from.ensures declared-bytes.result declared-bytes.ensures from2.result.now from2.ensures,
+        processes_long args.file.now args.row.now args.next.now (read_bytes args.file.now (search rules)) pre.0 pre.1
+            from.result.now from.ensures declared_bytes.result declared_bytes.ensures from2.result.now from2.ensures,
       ),
       omega (
         arith,
         count_fits (declarations_in from.result.now) variable-table.result variable-table.ensures
-            (variables-told args.file.now pre.0 from.result.now from.ensures),
+            (variables_told args.file.now pre.0 from.result.now from.ensures),
         length-take variable-table.result.count read-row.new.values,
       ),
       refl,
@@ -146,12 +146,12 @@ returns c =
     let args = c.args in
     let pre = c.requires in
     let from = c.from-payload in
-    let declared-bytes = c.declared_bytes in
+    let declared_bytes = c.declared_bytes in
     let from2 = c.from-list in
     let variable-table = c.variable_table-table in
     let survey = c.survey in
     let read-row = c.read_row in
     let run-processes = c.run_processes in
-    cycle-written args.file.now args.row.now args.next.now (read-bytes args.file.now (search rules)) pre.0 pre.1 from.result.now from.ensures
-    declared-bytes.result declared-bytes.ensures from2.result.now from2.ensures variable-table.result variable-table.ensures
-    _ refl (zeros-at 64) _ survey.ensures _ read-row.ensures _ run-processes.ensures
+    cycle_written args.file.now args.row.now args.next.now (read_bytes args.file.now (search rules)) pre.0 pre.1 from.result.now from.ensures
+    declared_bytes.result declared_bytes.ensures from2.result.now from2.ensures variable-table.result variable-table.ensures
+    _ refl (zeros_at 64) _ survey.ensures _ read-row.ensures _ run-processes.ensures

@@ -1,9 +1,9 @@
 -- `verilog_run::evaluate::value_by` and `value_of` meet their contracts: by what is read at the front of a part, the depth left falling. Assumes nothing.
 use mathlib.Core.Path.{sym, ap, ◌∙◌}
 use native.Mathlib.Omega.{arith}
-use Rattle.tagged.proofs.FieldLaws.{open-whole}
+use Rattle.tagged.proofs.FieldLaws.{open_whole}
 use Rattle.verilog_run.specs.Numbers.{number_in}
-use Rattle.verilog.proofs.FrontReading.{no-level, read-expression, read-other, read_none}
+use Rattle.verilog.proofs.FrontReading.{no_level, read_expression, read_other, read_none}
 use Rattle.verilog_run.proofs.evaluate.+value_by_value_of.Goals as goal
 
 --
@@ -57,30 +57,30 @@ value_by-returns-in-Two t c =
 --
 pub value_of-returns-then-depth-eq0 : goal.value_of-returns-then-depth-eq0
 unfolding number_in
-value_of-returns-then-depth-eq0 t c = ap (number_in _ _) (no-level _ c.if-depth-eq0.true _)
+value_of-returns-then-depth-eq0 t c = ap (number_in _ _) (no_level _ c.if-depth-eq0.true _)
 
 pub value_of-overflow_add-size : goal.value_of-overflow_add-size
 value_of-overflow_add-size t c =
     let opened = c.open_field.ensures in
-    omega (arith, (open-whole _ _ _ (sym opened ∙ c.in-Field.is)).within)
+    omega (arith, (open_whole _ _ _ (sym opened ∙ c.in-Field.is)).within)
 
 pub value_of-slice_bounds-value_by-end : goal.value_of-slice_bounds-value_by-end
 value_of-slice_bounds-value_by-end t c =
     let opened = c.open_field.ensures in
-    omega (arith, (open-whole _ _ _ (sym opened ∙ c.in-Field.is)).within)
+    omega (arith, (open_whole _ _ _ (sym opened ∙ c.in-Field.is)).within)
 
 pub value_of-returns-in-Expression : goal.value_of-returns-in-Expression
 value_of-returns-in-Expression t c =
     let some = c.if-depth-eq0.false in
     let opened = c.open_field.ensures in
-    rw (← read-expression _ some _ _ opened _ _ c.in-Field.is _ c.in-Expression.is) c.value_by.ensures
+    rw (← read_expression _ some _ _ opened _ _ c.in-Field.is _ c.in-Expression.is) c.value_by.ensures
 
 pub value_of-returns-in_default : goal.value_of-returns-in_default
 unfolding number_in
 value_of-returns-in_default t c =
     let some = c.if-depth-eq0.false in
     let opened = c.open_field.ensures in
-    ap (number_in _ _) (read-other _ some _ _ opened _ _ c.in-Field.is c.in_default.not-Expression)
+    ap (number_in _ _) (read_other _ some _ _ opened _ _ c.in-Field.is c.in_default.not-Expression)
 
 pub value_of-returns-in-Refused : goal.value_of-returns-in-Refused
 unfolding number_in
