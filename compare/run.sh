@@ -7,13 +7,13 @@
 # compare/run.sh selfbench                the bench with the reference in both places
 # compare/run.sh verilog [COUNT [SEED]]   the reference against Icarus Verilog
 #
-# The proved library is crates/placement/out/libplacement.a, which is x86-64 only; scripts/c-program links and runs what uses it.
+# The proved library is target/staticlib/libplacement.a, which is x86-64 only; scripts/c-program links and runs what uses it.
 # Where something is missing a line begins with `skipped:`, and nothing is claimed. COMPARE_BUILD names another folder than target/compare for what is built.
 set -eu
 root=$(cd "$(dirname "$0")/.." && pwd)
 cd "$root"
 build=${COMPARE_BUILD:-target/compare}
-archive=crates/placement/out/libplacement.a
+archive=target/staticlib/libplacement.a
 mkdir -p "$build"
 
 skip() { echo "skipped: $1"; exit 0; }
@@ -45,7 +45,7 @@ self_test() {
 with_archive() {
     program=$1
     shift
-    [ -f "$archive" ] || skip "$program with the proved library, no $archive (run rt lib in crates/placement)"
+    [ -f "$archive" ] || skip "$program with the proved library, no $archive (run scripts/library)"
     command -v rt >/dev/null || skip "$program with the proved library, no kit"
     has_gcc || skip "$program with the proved library, no C headers (they are found through gcc)"
     C_FLAGS="-std=gnu11 -Icompare" scripts/c-program "compare/$program.c" \

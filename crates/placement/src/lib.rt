@@ -1,4 +1,4 @@
-// What a placement tool in C calls: four functions over byte slices, each of which answers with a struct of numbers.
+// What a placement tool calls: four functions over byte slices, each of which answers with a struct of numbers. Crate placement_c exports them to C.
 #![tactic(auto)]
 
 ghost use Rattle.std.specs.Prelude.{◌≡◌, length};
@@ -11,16 +11,14 @@ ghost use Rattle.translate.specs.Answer.{translate_answer, translate_buffer};
 use tagged::answers::Reply;
 
 // Is the file an accepted module? Refusals 1 to 11.
-#[unsafe(no_mangle)]
-pub extern "C" fn skodderym_check(file: &[u8]) -> Reply
+pub fn skodderym_check(file: &[u8]) -> Reply
     ensures { result ≡ reply_of (module_answer file.now) }
 {
     verilog_check::check(file).reply()
 }
 
 // The netlist of a module, into a buffer: refusals 1 to 13.
-#[unsafe(no_mangle)]
-pub extern "C" fn skodderym_translate(file: &[u8], out: &mut [u8]) -> Reply
+pub fn skodderym_translate(file: &[u8], out: &mut [u8]) -> Reply
     ensures { Promise (translation_reply (translate_answer file.now (length out.old)))
         (translate_buffer file.now out.old) result out.new }
 {
@@ -28,8 +26,7 @@ pub extern "C" fn skodderym_translate(file: &[u8], out: &mut [u8]) -> Reply
 }
 
 // One cycle of a module, from a row into another: refusals 1 to 11 and 14.
-#[unsafe(no_mangle)]
-pub extern "C" fn skodderym_run_module(file: &[u8], row: &[u8], next: &mut [u8]) -> Reply
+pub fn skodderym_run_module(file: &[u8], row: &[u8], next: &mut [u8]) -> Reply
     ensures { Promise (reply_of (module_run.run_answer file.now row.now (length next.old)))
         (module_run.run_leaves file.now row.now next.old) result next.new }
 {
@@ -37,8 +34,7 @@ pub extern "C" fn skodderym_run_module(file: &[u8], row: &[u8], next: &mut [u8])
 }
 
 // One cycle of a netlist, from a row into another: refusals 1 to 8, 12 and 14.
-#[unsafe(no_mangle)]
-pub extern "C" fn skodderym_run_netlist(file: &[u8], row: &[u8], next: &mut [u8]) -> Reply
+pub fn skodderym_run_netlist(file: &[u8], row: &[u8], next: &mut [u8]) -> Reply
     ensures { Promise (reply_of (netlist_run.run_answer file.now row.now (length next.old)))
         (netlist_run.run_leaves file.now row.now next.old) result next.new }
 {
