@@ -47,9 +47,21 @@ def spelled(word):
     return re.sub(r"(?<!^)([A-Z])", lambda m: "_" + m.group(1).lower(), word)
 
 
-def lemmas_renamed(path, text):
+def to_rename(root):
+    """LEMMAS, without those that have their new name already."""
+    out = {}
+    for path in files(root):
+        stem = os.path.splitext(os.path.basename(path))[0]
+        if stem in LEMMAS and path.endswith("/proofs/" + stem + ".antt"):
+            with open(path, encoding="utf-8") as f:
+                text = f.read()
+            out.setdefault(stem, []).extend(n for n in LEMMAS[stem] if n + "_lem" not in text)
+    return out
+
+
+def lemmas_renamed(path, text, lemmas):
     own = os.path.splitext(os.path.basename(path))[0]
-    for stem, names in LEMMAS.items():
+    for stem, names in lemmas.items():
         if not (own == stem and "/proofs/" in path) and not re.search(r"\.proofs\." + stem + r"\.\{", text):
             continue
         for name in names:
@@ -118,15 +130,14 @@ def main(argv):
     rest = [a for a in argv if a != "--look"]
     root = rest[0] if rest else "."
     names, fields = table()
-    # where no word is in camel case any more, the lemmas of LEMMAS have their new names
-    first = any(WORD.search(STRING.sub("", open(p, encoding="utf-8").read())) for p in files(root) if p.endswith(".antt"))
+    lemmas = to_rename(root)
     for path in files(root):
         with open(path, encoding="utf-8") as f:
             text = f.read()
         if looking:
             look(path, text)
             continue
-        new = turned(lemmas_renamed(path, text) if first and path.endswith(".antt") else text)
+        new = turned(lemmas_renamed(path, text, lemmas) if path.endswith(".antt") else text)
         if not path.endswith(".edit"):
             new = modules(dashes(new, names, fields) if path.endswith(".antt") else new)
         if new != text:
