@@ -94,6 +94,9 @@ def dashes(text, names, fields):
         word = m.group()
         if word not in names or word in own:
             continue
+        comment = text.rfind("--", text.rfind("\n", 0, m.start()) + 1, m.start())
+        if comment >= 0 and text.count("`", comment, m.start()) % 2 == 0:
+            continue  # a word of a comment, unless it stands in backticks
         before = text[at : m.start()]
         if m.start() and text[m.start() - 1] == "." and word not in fields and not text[: m.start()].endswith("definitions."):
             continue

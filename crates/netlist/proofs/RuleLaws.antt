@@ -5,8 +5,6 @@ use mathlib.Core.List.{List, [], ◌∷◌, ◌++◌, map}
 use Prim.Native.Nat.{ℕ, suc, ◌+◌, ◌*◌, ◌≤◌}
 use native.Mathlib.Omega.{arith}
 use lib.ListN.{length, length-map, length-append}
-use types.Run.{OneOf, miss}
-use denote.Enum.Declared as enums
 use Rattle.tagged.specs.Bytes.{two_bytes}
 use Rattle.tagged.specs.Fields.{field_bytes, all_bytes_of}
 use Rattle.tagged.specs.Declarations.{declaration_bytes}
@@ -17,7 +15,6 @@ use Rattle.netlist.specs.Form.{operand_bytes, cell_bytes, drive_bytes, netlist_p
 use Rattle.netlist.specs.Rules.{cell_outside}
 use Rattle.netlist.specs.WalkAnswers.{most_listed}
 use Rattle.netlist.proofs.CellBytes.{operand_length}
-use Rattle.netlist.specs.contracts.Cell as cells
 
 -- the cells without a bit number or an index
 pub no_bit : (c : Cell) → ((w : ℕ) (v : Operand) (n : ℕ) (b : Operand) → c ≡ Cell.Put w v n b → ⊥) →

@@ -59,6 +59,7 @@ fn cell_number(cell: Cell, row: &[u32], values: &[u32]) -> u32
 }
 
 // Runs the cells of a list, in order: their numbers go into the values, so far as there is room. Where the list ends.
+#[tactic(auto, using(crate::proofs::RuleWalks::cell_within))]
 fn run_cells(list: &[u8], row: &[u32], values: &mut [u32]) -> usize
     requires { length list.now ≤ 2 ^ 40 }
     ensures { CellsRan list.now row.now values.old values.new result }

@@ -8,6 +8,7 @@ use tagged::declarations::declared_bytes;
 use tagged::parts::Part;
 
 // The part of a cell, in a list of cells whose first byte stands at `base`; without such a cell, nothing at the end of the list.
+#[tactic(auto, using(crate::proofs::RuleWalks::cell_within))]
 fn part_in(list: &[u8], base: usize, number: usize) -> Part
     requires { base + length list.now ≤ 2 ^ 40 }
     ensures { result ≡ part_in base number list.now }

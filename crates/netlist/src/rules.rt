@@ -299,6 +299,7 @@ fn drives_answer(
 const MOST_LISTED: usize = 3276;
 
 // What the cells of a list, whose first byte stands at `base`, then the drives after them and the whole netlist are refused for.
+#[tactic(auto, using(crate::proofs::RuleWalks::cell_within))]
 fn cells_answer(list: &[u8], base: usize, variables: &[u8], registers: &[u8]) -> Answer
     requires { (base + length list.now ≤ 2 ^ 40) × (cells_step 0 0 list.now ≡ steps.Past (cells_end list.now))
         × (length (unplaced (cells_at 0 list.now)) ≤ most_listed) }

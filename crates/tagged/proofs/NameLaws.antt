@@ -10,41 +10,12 @@ use lib.ListN.{length, get_or, drop, drop_of_length-le}
 use lib.Seq.{drop-cons}
 use borrow.Author.Tests.{eq-eqb, ne_eqb, eqb-true}
 use Rattle.tagged.specs.Names.{is_name_byte, all_name_bytes, same_name}
-use Rattle.tagged.proofs.RangeLaws.{range_above, range_below, range_within}
+use Rattle.tagged.proofs.RangeLaws.{range_above}
 
--- which bytes a name may have
-module _ (b : ℕ) where
-  pub byte_digit : 0x30 ≤ b → b < 0x3A → is_name_byte b ≡ true
-  unfolding is_name_byte
-  byte_digit h k = rw (range_below b 0x41 0x5A (omega arith), range_below b 0x61 0x7A (omega arith), range_within b 0x30 0x39 h (omega arith))
-
-  pub byte_upper : 0x41 ≤ b → b < 0x5B → is_name_byte b ≡ true
-  unfolding is_name_byte
-  byte_upper h k = rw (range_within b 0x41 0x5A h (omega arith))
-
-  pub byte_underscore : b ≡ 0x5F → is_name_byte b ≡ true
-  unfolding is_name_byte
-  byte_underscore e = rw e
-
-  pub byte_lower : 0x61 ≤ b → b < 0x7B → is_name_byte b ≡ true
-  unfolding is_name_byte
-  byte_lower h k = rw (range_above b 0x41 0x5A (omega arith), range_within b 0x61 0x7A h (omega arith))
-
-  pub byte_low : b < 0x30 → is_name_byte b ≡ false
-  unfolding is_name_byte
-  byte_low h = rw (range_below b 0x41 0x5A (omega arith), range_below b 0x61 0x7A (omega arith), range_below b 0x30 0x39 h, ne_eqb b 0x5F (λ e. omega arith))
-
-  pub byte_between : 0x3A ≤ b → b < 0x41 → is_name_byte b ≡ false
-  unfolding is_name_byte
-  byte_between h k = rw (range_below b 0x41 0x5A k, range_below b 0x61 0x7A (omega arith), range_above b 0x30 0x39 (omega arith), ne_eqb b 0x5F (λ e. omega arith))
-
-  pub byte_beside : 0x5B ≤ b → b < 0x61 → (b ≡ 0x5F → ⊥) → is_name_byte b ≡ false
-  unfolding is_name_byte
-  byte_beside h k n = rw (range_above b 0x41 0x5A (omega arith), range_below b 0x61 0x7A k, range_above b 0x30 0x39 (omega arith), ne_eqb b 0x5F n)
-
-  pub byte_high : 0x7B ≤ b → is_name_byte b ≡ false
-  unfolding is_name_byte
-  byte_high h = rw (range_above b 0x41 0x5A (omega arith), range_above b 0x61 0x7A (omega arith), range_above b 0x30 0x39 (omega arith), ne_eqb b 0x5F (λ e. omega arith))
+-- a byte past the letters is none of a name's
+pub byte_high : (b : ℕ) → 0x7B ≤ b → is_name_byte b ≡ false
+unfolding is_name_byte
+byte_high b h = rw (range_above b 0x41 0x5A (omega arith), range_above b 0x61 0x7A (omega arith), range_above b 0x30 0x39 (omega arith), ne_eqb b 0x5F (λ e. omega arith))
 
 -- one turn of the loop over a name's bytes, which has come to the index `at`
 module _ (l : List ℕ) (at : ℕ) (going : all_name_bytes l ≡ all_name_bytes (drop at l)) where

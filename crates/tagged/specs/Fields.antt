@@ -1,4 +1,4 @@
--- Fields: a tag byte, a two_byte length (high byte first) and a payload of that length; how they are written, opened, judged and listed.
+-- Fields: a tag byte, a two-byte length (high byte first) and a payload of that length; how they are written, opened, judged and listed.
 -- Throughout, `l` is what is left of a payload, `base` the place of its first byte in the file, `owner` the place of the field that holds it.
 use Rattle.std.specs.Prelude.{Bool, true, cond, List, [], ◌∷◌, ◌++◌, ℕ, zero, suc, ◌+◌, ◌-◌, ltb, leb, eqb, length, get_or, take, drop}
 use Rattle.tagged.specs.Choice.{choose}

@@ -143,6 +143,7 @@ fn value_broken(sort: DeclarationSort, payload: &[u8]) -> bool
 }
 
 // Is the name one of the first declarations' of a list, so many of them?
+#[tactic(auto, using(crate::proofs::DeclarationWalks::here_within))]
 fn name_taken(list: &[u8], count: usize, name: &[u8]) -> bool
     requires { length list.now ≤ 2 ^ 40 }
     ensures { result ≡ name_taken name.now (take count (declarations_in list.now)) }
@@ -212,6 +213,7 @@ fn declaration_breaks(
 }
 
 // The place of the first declaration that breaks this rule, in a list whose first byte stands at `base`.
+#[tactic(auto, using(crate::proofs::DeclarationWalks::here_within))]
 fn declaration_broken(rule: Rule, list: &[u8], base: usize) -> Found
     requires { base + length list.now ≤ 2 ^ 40 }
     ensures { result ≡ first_broken (declaration_breaks rule) [] (declarations_at base list.now) }
@@ -287,6 +289,7 @@ fn with_variable(table: VariableTable, width: u8, mark: u8) -> VariableTable
 }
 
 // The table of a list's declarations.
+#[tactic(auto, using(crate::proofs::DeclarationWalks::here_within))]
 pub fn variable_table(list: &[u8]) -> VariableTable
     requires { length list.now ≤ 2 ^ 40 }
     ensures { result ≡ variable_table (declarations_in list.now) }

@@ -13,6 +13,7 @@ pub struct Part {
 }
 
 // The part of a name, by its variable's number, in a list of declarations whose first byte stands at `base`; without such a variable, nothing at the end of the list.
+#[tactic(auto, using(crate::proofs::DeclarationWalks::here_within))]
 pub fn name_in(list: &[u8], base: usize, number: usize) -> Part
     requires { base + length list.now ≤ 2 ^ 40 }
     ensures { result ≡ name_in base number list.now }

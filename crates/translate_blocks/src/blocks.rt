@@ -368,6 +368,7 @@ fn block(
 }
 
 // The statements of a list, in order.
+#[tactic(auto, using(tagged::proofs::FieldLists::field_within))]
 #[cycle(blocks)]
 fn statements(
     list: &[u8],
@@ -507,6 +508,7 @@ fn item_operand(payload: &[u8]) -> Operand
 }
 
 // Forward over the items of a case, and the block that ends them.
+#[tactic(auto, using(tagged::proofs::FieldLists::field_within))]
 #[cycle(blocks)]
 fn items(
     list: &[u8],

@@ -79,6 +79,7 @@ fn expression(
 }
 
 // The expressions of a list.
+#[tactic(auto, using(tagged::proofs::FieldLists::field_within))]
 #[cycle(expression_operands)]
 fn operands(
     process: usize,
@@ -161,6 +162,7 @@ fn statement(
 }
 
 // The expressions, items and blocks of a list, in a statement whose first expression has the width `selector`.
+#[tactic(auto, using(tagged::proofs::FieldLists::field_within))]
 #[cycle(statement_walk)]
 fn parts(
     process: usize,
@@ -271,6 +273,7 @@ fn item(
 }
 
 // The statements of a block or of a process.
+#[tactic(auto, using(tagged::proofs::FieldLists::field_within))]
 #[cycle(statement_walk)]
 fn statements(
     process: usize,
@@ -344,6 +347,7 @@ fn process_answer(
 }
 
 // What the processes of a list are refused for.
+#[tactic(auto, using(tagged::proofs::FieldLists::field_within))]
 pub fn processes_answer(
     widths: &[u8],
     marks: &[u8],

@@ -178,6 +178,7 @@ fn block(
 }
 
 // The statements of a list, in order.
+#[tactic(auto, using(tagged::proofs::FieldLists::field_within))]
 #[cycle(execution)]
 fn statements(list: &[u8], depth: usize, widths: &[u8], current: &mut [u32], pending: &mut [u32])
     requires { length list.now ≤ 2 ^ 40 }
@@ -235,6 +236,7 @@ fn item_value(payload: &[u8]) -> u32
 }
 
 // The first item of a list whose value the selector has, else the block that ends them.
+#[tactic(auto, using(tagged::proofs::FieldLists::field_within))]
 #[cycle(execution)]
 fn items(
     list: &[u8],

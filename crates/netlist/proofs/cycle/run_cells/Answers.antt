@@ -27,41 +27,6 @@ returns-in-Ended c =
       ends = λ m e. left_none args.list.now _ _ next-cell.ensures m (loop.invariant.4 m e) c.in-Ended.is;
     }
 
-pub payload_at-requires : goal.payload_at-requires
-payload_at-requires c =
-    let args = c.args in
-    let next-cell = c.next_cell in
-    let pre = c.requires in
-    (omega (arith, cell_within args.list.now _ _ next-cell.ensures _ _ c.in-Cell.is), pre)
-
-pub overflow_add-at : goal.overflow_add-at
-overflow_add-at c =
-    let args = c.args in
-    let next-cell = c.next_cell in
-    let pre = c.requires in
-    omega (arith, cell_within args.list.now _ _ next-cell.ensures _ _ c.in-Cell.is, pre)
-
-pub overflow_add-at-in-Cell : goal.overflow_add-at-in-Cell
-overflow_add-at-in-Cell c =
-    let args = c.args in
-    let next-cell = c.next_cell in
-    let pre = c.requires in
-    omega (arith, cell_within args.list.now _ _ next-cell.ensures _ _ c.in-Cell.is, pre)
-
-pub overflow_add-count : goal.overflow_add-count
-overflow_add-count c =
-    let args = c.args in
-    let next-cell = c.next_cell in
-    let loop = c.loop-sort in
-    let pre = c.requires in
-    omega (arith, cell_within args.list.now _ _ next-cell.ensures _ _ c.in-Cell.is, loop.invariant.1, pre)
-
-pub loop-sort-smaller : goal.loop-sort-smaller
-loop-sort-smaller c =
-    let args = c.args in
-    let next-cell = c.next_cell in
-    omega (arith, cell_within args.list.now _ _ next-cell.ensures _ _ c.in-Cell.is)
-
 pub loop-sort-preserved : goal.loop-sort-preserved
 loop-sort-preserved c =
     let args = c.args in

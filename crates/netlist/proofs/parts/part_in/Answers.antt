@@ -22,34 +22,6 @@ returns-in-Ended c =
     let next-cell = c.next_cell in
     part_none args.list.now args.base args.number loop.at loop.left loop.invariant.1 next-cell.result next-cell.ensures c.in-Ended.is
 
-pub overflow_add-result-then-left-eq0 : goal.overflow_add-result-then-left-eq0
-overflow_add-result-then-left-eq0 c =
-    let args = c.args in
-    let next-cell = c.next_cell in
-    let pre = c.requires in
-    omega (arith, cell_within args.list.now _ _ next-cell.ensures _ _ c.in-Cell.is, pre)
-
-pub overflow_add-result-then-left-eq0-2 : goal.overflow_add-result-then-left-eq0-2
-overflow_add-result-then-left-eq0-2 c =
-    let args = c.args in
-    let next-cell = c.next_cell in
-    let pre = c.requires in
-    omega (arith, cell_within args.list.now _ _ next-cell.ensures _ _ c.in-Cell.is, pre)
-
-pub overflow_add-result-then-left-eq0-3 : goal.overflow_add-result-then-left-eq0-3
-overflow_add-result-then-left-eq0-3 c =
-    let args = c.args in
-    let next-cell = c.next_cell in
-    let pre = c.requires in
-    omega (arith, cell_within args.list.now _ _ next-cell.ensures _ _ c.in-Cell.is, pre)
-
-pub overflow_add-result-then-left-eq0-4 : goal.overflow_add-result-then-left-eq0-4
-overflow_add-result-then-left-eq0-4 c =
-    let args = c.args in
-    let next-cell = c.next_cell in
-    let pre = c.requires in
-    omega (arith, cell_within args.list.now _ _ next-cell.ensures _ _ c.in-Cell.is, pre)
-
 pub returns-then-left-eq0 : goal.returns-then-left-eq0
 returns-then-left-eq0 c =
     let args = c.args in
@@ -57,26 +29,6 @@ returns-then-left-eq0 c =
     let next-cell = c.next_cell in
     let if1 = c.if-left-eq0 in
     part_here args.list.now args.base args.number loop.at loop.left loop.invariant.1 next-cell.result next-cell.ensures _ _ c.in-Cell.is if1.true
-
-pub overflow_add-at : goal.overflow_add-at
-overflow_add-at c =
-    let args = c.args in
-    let next-cell = c.next_cell in
-    let pre = c.requires in
-    omega (arith, cell_within args.list.now _ _ next-cell.ensures _ _ c.in-Cell.is, pre)
-
-pub overflow_add-at-in-Cell : goal.overflow_add-at-in-Cell
-overflow_add-at-in-Cell c =
-    let args = c.args in
-    let next-cell = c.next_cell in
-    let pre = c.requires in
-    omega (arith, cell_within args.list.now _ _ next-cell.ensures _ _ c.in-Cell.is, pre)
-
-pub loop-size-smaller : goal.loop-size-smaller
-loop-size-smaller c =
-    let args = c.args in
-    let next-cell = c.next_cell in
-    omega (arith, cell_within args.list.now _ _ next-cell.ensures _ _ c.in-Cell.is)
 
 pub loop-size-preserved : goal.loop-size-preserved
 loop-size-preserved c =

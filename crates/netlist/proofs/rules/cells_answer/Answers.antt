@@ -72,13 +72,6 @@ returns-in-Ended c =
     (c.drives_answer-later.ensures n known (ap (map cell_width) listed ∙ loop.invariant.2.held) (drives ∙ ap (λ l. unplaced (drives_at 0 l)) (sym after))
     ∙ ap₂ (λ k l. lower_refusal (list_answer (λ rule. drive_breaks rule n.declarations n.cells) [] (drives_at (args.base + k) l)) (whole_answer n)) bytes after)
 
-pub payload_at-requires : goal.payload_at-requires
-payload_at-requires c =
-    let args = c.args in
-    let next-cell = c.next_cell in
-    let pre = c.requires in
-    (omega (arith, cell_within args.list.now _ _ next-cell.ensures _ _ c.in-Cell.is), omega (arith, pre.0))
-
 pub slice_bounds-widths-end-in-Cell : goal.slice_bounds-widths-end-in-Cell
 slice_bounds-widths-end-in-Cell c =
     let loop = c.loop-drives in
@@ -99,31 +92,11 @@ bounds-widths-count c =
     let next-cell = c.next_cell in
     tabled_room loop.invariant.1 loop.invariant.2 pre.2 (cell_more args.list.now _ _ next-cell.ensures _ _ c.in-Cell.is)
 
-pub overflow_add-at : goal.overflow_add-at
-overflow_add-at c =
-    let args = c.args in
-    let next-cell = c.next_cell in
-    let pre = c.requires in
-    omega (arith, cell_within args.list.now _ _ next-cell.ensures _ _ c.in-Cell.is, pre.0)
-
-pub overflow_add-at-in-Cell : goal.overflow_add-at-in-Cell
-overflow_add-at-in-Cell c =
-    let args = c.args in
-    let next-cell = c.next_cell in
-    let pre = c.requires in
-    omega (arith, cell_within args.list.now _ _ next-cell.ensures _ _ c.in-Cell.is, pre.0)
-
 pub overflow_add-count : goal.overflow_add-count
 overflow_add-count c =
     let pre = c.requires in
     let loop = c.loop-drives in
     omega (arith, pre.0, loop.invariant.0, loop.invariant.1.sized)
-
-pub loop-drives-smaller : goal.loop-drives-smaller
-loop-drives-smaller c =
-    let args = c.args in
-    let next-cell = c.next_cell in
-    omega (arith, cell_within args.list.now _ _ next-cell.ensures _ _ c.in-Cell.is)
 
 pub loop-drives-preserved : goal.loop-drives-preserved
 loop-drives-preserved c =

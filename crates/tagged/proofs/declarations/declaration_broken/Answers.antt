@@ -20,13 +20,6 @@ returns-in-Ended c =
     broken_none (declaration_breaks args.rule) args.base args.list.now loop.at loop.count loop.invariant.2
     (here_ended args.list.now _ _ next-declaration.ensures _ c.in-Ended.is)
 
-pub payload_at-requires : goal.payload_at-requires
-payload_at-requires c =
-    let args = c.args in
-    let next-declaration = c.next_declaration in
-    let pre = c.requires in
-    (omega (arith, here_within args.list.now _ _ next-declaration.ensures _ _ c.in-Declaration.is), omega (arith, pre))
-
 pub declaration_breaks-requires : goal.declaration_breaks-requires
 declaration_breaks-requires c =
     let pre = c.requires in
@@ -45,31 +38,11 @@ returns-then-declaration_breaks c =
     (here_placed args.list.now _ _ next-declaration.ensures args.base _ _ c.in-Declaration.is)
     (ap (λ l. declaration_breaks args.rule (take loop.count (declarations_in args.list.now)) (declaration_in c.in-Declaration.sort l)) (sym payload-at.ensures) ∙ sym declaration-breaks.ensures ∙ if1.true)
 
-pub overflow_add-at : goal.overflow_add-at
-overflow_add-at c =
-    let args = c.args in
-    let next-declaration = c.next_declaration in
-    let pre = c.requires in
-    omega (arith, here_within args.list.now _ _ next-declaration.ensures _ _ c.in-Declaration.is, pre)
-
-pub overflow_add-at-in-Declaration : goal.overflow_add-at-in-Declaration
-overflow_add-at-in-Declaration c =
-    let args = c.args in
-    let next-declaration = c.next_declaration in
-    let pre = c.requires in
-    omega (arith, here_within args.list.now _ _ next-declaration.ensures _ _ c.in-Declaration.is, pre)
-
 pub overflow_add-count : goal.overflow_add-count
 overflow_add-count c =
     let pre = c.requires in
     let loop = c.loop-sort in
     omega (arith, pre, loop.invariant.1.sized, loop.invariant.0)
-
-pub loop-sort-smaller : goal.loop-sort-smaller
-loop-sort-smaller c =
-    let args = c.args in
-    let next-declaration = c.next_declaration in
-    omega (arith, here_within args.list.now _ _ next-declaration.ensures _ _ c.in-Declaration.is)
 
 pub loop-sort-preserved : goal.loop-sort-preserved
 loop-sort-preserved c =

@@ -17,13 +17,6 @@ returns-in-Ended c =
     let next-declaration = c.next_declaration in
     taken_none args.name.now args.list.now args.count loop.at loop.left loop.invariant.1 (here_none args.list.now _ _ next-declaration.ensures c.in-Ended.is)
 
-pub payload_at-requires : goal.payload_at-requires
-payload_at-requires c =
-    let args = c.args in
-    let next-declaration = c.next_declaration in
-    let pre = c.requires in
-    (omega (arith, here_within args.list.now _ _ next-declaration.ensures _ _ c.in-Declaration.is), pre)
-
 pub returns-then-same_name : goal.returns-then-same_name
 returns-then-same_name c =
     let args = c.args in
@@ -38,20 +31,6 @@ returns-then-same_name c =
     taken_here args.name.now args.list.now args.count loop.at loop.left loop.invariant.1 loop-test.true _ _
     (here_more args.list.now _ _ next-declaration.ensures _ _ c.in-Declaration.is)
     (name_tested c.in-Declaration.sort (take c.in-Declaration.size (drop (loop.at + 3) args.list.now)) _ fixed-bytes.ensures _ payload-at.ensures _ from.ensures args.name.now _ same_name.ensures ∙ if1.true)
-
-pub overflow_add-at : goal.overflow_add-at
-overflow_add-at c =
-    let args = c.args in
-    let next-declaration = c.next_declaration in
-    let pre = c.requires in
-    omega (arith, here_within args.list.now _ _ next-declaration.ensures _ _ c.in-Declaration.is, pre)
-
-pub overflow_add-at-in-Declaration : goal.overflow_add-at-in-Declaration
-overflow_add-at-in-Declaration c =
-    let args = c.args in
-    let next-declaration = c.next_declaration in
-    let pre = c.requires in
-    omega (arith, here_within args.list.now _ _ next-declaration.ensures _ _ c.in-Declaration.is, pre)
 
 pub overflow_sub-left : goal.overflow_sub-left
 overflow_sub-left c = omega (arith, c.loop-left-test.true)

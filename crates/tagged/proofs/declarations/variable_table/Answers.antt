@@ -19,41 +19,6 @@ returns-in-Ended c =
     let next-declaration = c.next_declaration in
     extend_done loop.table _ (here_none args.list.now _ _ next-declaration.ensures c.in-Ended.is) loop.invariant.2
 
-pub payload_at-requires : goal.payload_at-requires
-payload_at-requires c =
-    let args = c.args in
-    let next-declaration = c.next_declaration in
-    let pre = c.requires in
-    (omega (arith, here_within args.list.now _ _ next-declaration.ensures _ _ c.in-Declaration.is), pre)
-
-pub with_variable-table-requires : goal.with_variable-table-requires
-with_variable-table-requires c =
-    let args = c.args in
-    let next-declaration = c.next_declaration in
-    let loop = c.loop-table in
-    let pre = c.requires in
-    omega (arith, here_within args.list.now _ _ next-declaration.ensures _ _ c.in-Declaration.is, loop.invariant.1, pre)
-
-pub overflow_add-at : goal.overflow_add-at
-overflow_add-at c =
-    let args = c.args in
-    let next-declaration = c.next_declaration in
-    let pre = c.requires in
-    omega (arith, here_within args.list.now _ _ next-declaration.ensures _ _ c.in-Declaration.is, pre)
-
-pub overflow_add-at-in-Declaration : goal.overflow_add-at-in-Declaration
-overflow_add-at-in-Declaration c =
-    let args = c.args in
-    let next-declaration = c.next_declaration in
-    let pre = c.requires in
-    omega (arith, here_within args.list.now _ _ next-declaration.ensures _ _ c.in-Declaration.is, pre)
-
-pub loop-table-smaller : goal.loop-table-smaller
-loop-table-smaller c =
-    let args = c.args in
-    let next-declaration = c.next_declaration in
-    omega (arith, here_within args.list.now _ _ next-declaration.ensures _ _ c.in-Declaration.is)
-
 pub loop-table-preserved : goal.loop-table-preserved
 loop-table-preserved c =
     let args = c.args in

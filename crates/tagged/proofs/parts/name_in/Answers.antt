@@ -26,13 +26,6 @@ returns-then-left-eq0 c =
     let payload-at = c.payload_at in
     name_here args.list.now args.base args.number loop.at loop.left loop.invariant.1 _ next-declaration.ensures _ _ c.in-Declaration.is if1.true _ payload-at.ensures _ fixed-bytes.ensures _ c.from-name.ensures
 
-pub payload_at-requires : goal.payload_at-requires
-payload_at-requires c =
-    let args = c.args in
-    let pre = c.requires in
-    let next-declaration = c.next_declaration in
-    (omega (arith, here_within args.list.now _ _ next-declaration.ensures _ _ c.in-Declaration.is), omega (arith, pre))
-
 pub overflow_add-result : goal.overflow_add-result
 overflow_add-result c =
     let pre = c.requires in
@@ -43,41 +36,6 @@ overflow_add-result-in-Ended c =
     let pre = c.requires in
     omega (arith, pre)
 
-pub overflow_add-end : goal.overflow_add-end
-overflow_add-end c =
-    let args = c.args in
-    let pre = c.requires in
-    let next-declaration = c.next_declaration in
-    omega (arith, here_within args.list.now _ _ next-declaration.ensures _ _ c.in-Declaration.is, pre)
-
-pub overflow_add-end-then-left-eq0 : goal.overflow_add-end-then-left-eq0
-overflow_add-end-then-left-eq0 c =
-    let args = c.args in
-    let pre = c.requires in
-    let next-declaration = c.next_declaration in
-    omega (arith, here_within args.list.now _ _ next-declaration.ensures _ _ c.in-Declaration.is, pre)
-
-pub overflow_add-end-then-left-eq0-2 : goal.overflow_add-end-then-left-eq0-2
-overflow_add-end-then-left-eq0-2 c =
-    let args = c.args in
-    let pre = c.requires in
-    let next-declaration = c.next_declaration in
-    omega (arith, here_within args.list.now _ _ next-declaration.ensures _ _ c.in-Declaration.is, pre)
-
-pub overflow_add-at : goal.overflow_add-at
-overflow_add-at c =
-    let args = c.args in
-    let pre = c.requires in
-    let next-declaration = c.next_declaration in
-    omega (arith, here_within args.list.now _ _ next-declaration.ensures _ _ c.in-Declaration.is, pre)
-
-pub overflow_add-at-in-Declaration : goal.overflow_add-at-in-Declaration
-overflow_add-at-in-Declaration c =
-    let args = c.args in
-    let pre = c.requires in
-    let next-declaration = c.next_declaration in
-    omega (arith, here_within args.list.now _ _ next-declaration.ensures _ _ c.in-Declaration.is, pre)
-
 pub overflow_sub-result : goal.overflow_sub-result
 overflow_sub-result c =
     let args = c.args in
@@ -86,12 +44,6 @@ overflow_sub-result c =
     let fixed-bytes = c.fixed_bytes-fixed in
     let payload-at = c.payload_at in
     omega (arith, name_short args.list.now args.base args.number loop.at loop.left loop.invariant.1 _ next-declaration.ensures _ _ c.in-Declaration.is _ _ payload-at.ensures fixed-bytes.result c.from-name.ensures)
-
-pub loop-sort-smaller : goal.loop-sort-smaller
-loop-sort-smaller c =
-    let args = c.args in
-    let next-declaration = c.next_declaration in
-    omega (arith, here_within args.list.now _ _ next-declaration.ensures _ _ c.in-Declaration.is)
 
 pub loop-sort-preserved : goal.loop-sort-preserved
 loop-sort-preserved c =

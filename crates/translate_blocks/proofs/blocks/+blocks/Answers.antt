@@ -135,44 +135,10 @@ items-loop-next-init t c = items_start c.requires.entry_is_table c.requires.room
 pub items-returns-in-Refused : goal.items-returns-in-Refused
 items-returns-in-Refused t c = items_none c.loop-next.invariant c.open_field.ensures c.in-Refused.is
 
-pub items-payload_at-payload-requires : goal.items-payload_at-payload-requires
-items-payload_at-payload-requires t c = (
-  omega (
-    arith,
-    field_within c.args.list.now _ _ c.open_field.ensures _ _ c.in-Field.is,
-    c.requires.room.free,
-    c.requires.room.short,
-  ),
-  omega (
-    arith,
-    field_within c.args.list.now _ _ c.open_field.ensures _ _ c.in-Field.is,
-    c.requires.room.free,
-    c.requires.room.short,
-  ),
-)
-
 pub items-marked_item-next-requires : goal.items-marked_item-next-requires
 items-marked_item-next-requires t c =
     let room = items_room c.loop-next.invariant c.open_field.ensures c.in-Field.is c.payload_at-payload.ensures in
     (omega arith, (sym c.loop-next.invariant.same, room))
-
-pub items-overflow_add-index : goal.items-overflow_add-index
-items-overflow_add-index t c =
-    omega (
-      arith,
-      field_within c.args.list.now _ _ c.open_field.ensures _ _ c.in-Field.is,
-      c.requires.room.free,
-      c.requires.room.short,
-    )
-
-pub items-overflow_add-index-in-Item : goal.items-overflow_add-index-in-Item
-items-overflow_add-index-in-Item t c =
-    omega (
-      arith,
-      field_within c.args.list.now _ _ c.open_field.ensures _ _ c.in-Field.is,
-      c.requires.room.free,
-      c.requires.room.short,
-    )
 
 pub items-loop-next-smaller : goal.items-loop-next-smaller
 items-loop-next-smaller t c =
@@ -247,53 +213,10 @@ statements-loop-next-init t c = list_start c.requires
 pub statements-returns-in-Refused : goal.statements-returns-in-Refused
 statements-returns-in-Refused t c = list_done c.loop-next.invariant c.open_field.ensures c.in-Refused.is
 
-pub statements-payload_at-requires : goal.statements-payload_at-requires
-statements-payload_at-requires t c = (
-  omega (
-    arith,
-    field_within c.args.list.now _ _ c.open_field.ensures _ _ c.in-Field.is,
-    c.requires.free,
-    c.requires.short,
-  ),
-  omega (
-    arith,
-    field_within c.args.list.now _ _ c.open_field.ensures _ _ c.in-Field.is,
-    c.requires.free,
-    c.requires.short,
-  ),
-)
-
 pub statements-statement-next-requires : goal.statements-statement-next-requires
 statements-statement-next-requires t c =
     let room = list_room c.loop-next.invariant c.open_field.ensures c.in-Field.is c.payload_at.ensures in
     (omega arith, room)
-
-pub statements-overflow_add-index : goal.statements-overflow_add-index
-statements-overflow_add-index t c =
-    omega (
-      arith,
-      field_within c.args.list.now _ _ c.open_field.ensures _ _ c.in-Field.is,
-      c.requires.free,
-      c.requires.short,
-    )
-
-pub statements-overflow_add-index-in-Field : goal.statements-overflow_add-index-in-Field
-statements-overflow_add-index-in-Field t c =
-    omega (
-      arith,
-      field_within c.args.list.now _ _ c.open_field.ensures _ _ c.in-Field.is,
-      c.requires.free,
-      c.requires.short,
-    )
-
-pub statements-loop-next-smaller : goal.statements-loop-next-smaller
-statements-loop-next-smaller t c =
-    omega (
-      arith,
-      field_within c.args.list.now _ _ c.open_field.ensures _ _ c.in-Field.is,
-      c.requires.free,
-      c.requires.short,
-    )
 
 pub statements-loop-next-preserved : goal.statements-loop-next-preserved
 statements-loop-next-preserved t c =

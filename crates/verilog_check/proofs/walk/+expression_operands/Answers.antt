@@ -38,26 +38,11 @@ expression-returns-in_default t c marks = expression_other _ _ _ _ _ c.if-depth-
 pub operands-loop-sort-init : goal.operands-loop-sort-init
 operands-loop-sort-init t c = (search rules, λ marks. rw add-zero)
 
-pub operands-payload_at-payload-requires : goal.operands-payload_at-payload-requires
-operands-payload_at-payload-requires t c = (omega (arith, field_within c.args.list.now _ _ c.open_field.ensures _ _ c.in-Field.is), search rules)
-
-pub operands-overflow_add-base : goal.operands-overflow_add-base
-operands-overflow_add-base t c = omega (arith, field_within c.args.list.now _ _ c.open_field.ensures _ _ c.in-Field.is)
-
 pub operands-expression-field-requires : goal.operands-expression-field-requires
 operands-expression-field-requires t c =
     let args = c.args in
     let open-field = c.open_field in
     omega (arith, payload_within args.list.now _ _ open-field.ensures _ _ c.in-Field.is _ c.payload_at-payload.ensures)
-
-pub operands-overflow_add-at : goal.operands-overflow_add-at
-operands-overflow_add-at t c = omega (arith, field_within c.args.list.now _ _ c.open_field.ensures _ _ c.in-Field.is)
-
-pub operands-overflow_add-at-in-Field : goal.operands-overflow_add-at-in-Field
-operands-overflow_add-at-in-Field t c = omega (arith, field_within c.args.list.now _ _ c.open_field.ensures _ _ c.in-Field.is)
-
-pub operands-loop-sort-smaller : goal.operands-loop-sort-smaller
-operands-loop-sort-smaller t c = omega (arith, field_within c.args.list.now _ _ c.open_field.ensures _ _ c.in-Field.is)
 
 pub operands-loop-sort-preserved : goal.operands-loop-sort-preserved
 operands-loop-sort-preserved t c =

@@ -46,58 +46,11 @@ part-returns-in_default t c = part_other _ _ _ _ _ _ _ c.if-depth-eq0.false c.in
 pub parts-loop-sort-init : goal.parts-loop-sort-init
 parts-loop-sort-init t c = (search rules, rw add-zero)
 
-pub parts-payload_at-payload-requires : goal.parts-payload_at-payload-requires
-parts-payload_at-payload-requires t c = (
-  omega (
-    arith,
-    (let args = c.args in
-        let open-field = c.open_field in
-        field_within args.list.now _ _ open-field.ensures _ _ c.in-Field.is),
-  ),
-  search rules,
-)
-
-pub parts-overflow_add-base : goal.parts-overflow_add-base
-parts-overflow_add-base t c =
-    omega (
-      arith,
-      (let args = c.args in
-          let open-field = c.open_field in
-          field_within args.list.now _ _ open-field.ensures _ _ c.in-Field.is),
-    )
-
 pub parts-part-field-requires : goal.parts-part-field-requires
 parts-part-field-requires t c =
     let args = c.args in
     let open-field = c.open_field in
     omega (arith, payload_within args.list.now _ _ open-field.ensures _ _ c.in-Field.is _ c.payload_at-payload.ensures)
-
-pub parts-overflow_add-at : goal.parts-overflow_add-at
-parts-overflow_add-at t c =
-    omega (
-      arith,
-      (let args = c.args in
-          let open-field = c.open_field in
-          field_within args.list.now _ _ open-field.ensures _ _ c.in-Field.is),
-    )
-
-pub parts-overflow_add-at-in-Field : goal.parts-overflow_add-at-in-Field
-parts-overflow_add-at-in-Field t c =
-    omega (
-      arith,
-      (let args = c.args in
-          let open-field = c.open_field in
-          field_within args.list.now _ _ open-field.ensures _ _ c.in-Field.is),
-    )
-
-pub parts-loop-sort-smaller : goal.parts-loop-sort-smaller
-parts-loop-sort-smaller t c =
-    omega (
-      arith,
-      (let args = c.args in
-          let open-field = c.open_field in
-          field_within args.list.now _ _ open-field.ensures _ _ c.in-Field.is),
-    )
 
 pub parts-loop-sort-preserved : goal.parts-loop-sort-preserved
 parts-loop-sort-preserved t c =
@@ -105,12 +58,7 @@ parts-loop-sort-preserved t c =
     let open-field = c.open_field in
     let payload-at = c.payload_at-payload in
     let part = c.part-field in (
-      omega (
-        arith,
-        (let args = c.args in
-            let open-field = c.open_field in
-            field_within args.list.now _ _ open-field.ensures _ _ c.in-Field.is),
-      ),
+      omega (arith, field_within c.args.list.now _ _ c.open_field.ensures _ _ c.in-Field.is),
       walk_next (all_steps _) _ loop.best _ _ _ loop.invariant.1 _ open-field.ensures _ _ c.in-Field.is _ payload-at.ensures _ part.ensures _ c.or_lower-best.ensures,
     )
 
@@ -151,58 +99,11 @@ statement-returns-in_default t c = statement_other _ _ _ _ _ _ c.if-depth-eq0.fa
 pub statements-loop-sort-init : goal.statements-loop-sort-init
 statements-loop-sort-init t c = (search rules, rw add-zero)
 
-pub statements-payload_at-payload-requires : goal.statements-payload_at-payload-requires
-statements-payload_at-payload-requires t c = (
-  omega (
-    arith,
-    (let args = c.args in
-        let open-field = c.open_field in
-        field_within args.list.now _ _ open-field.ensures _ _ c.in-Field.is),
-  ),
-  search rules,
-)
-
-pub statements-overflow_add-base : goal.statements-overflow_add-base
-statements-overflow_add-base t c =
-    omega (
-      arith,
-      (let args = c.args in
-          let open-field = c.open_field in
-          field_within args.list.now _ _ open-field.ensures _ _ c.in-Field.is),
-    )
-
 pub statements-statement-field-requires : goal.statements-statement-field-requires
 statements-statement-field-requires t c =
     let args = c.args in
     let open-field = c.open_field in
     omega (arith, payload_within args.list.now _ _ open-field.ensures _ _ c.in-Field.is _ c.payload_at-payload.ensures)
-
-pub statements-overflow_add-at : goal.statements-overflow_add-at
-statements-overflow_add-at t c =
-    omega (
-      arith,
-      (let args = c.args in
-          let open-field = c.open_field in
-          field_within args.list.now _ _ open-field.ensures _ _ c.in-Field.is),
-    )
-
-pub statements-overflow_add-at-in-Field : goal.statements-overflow_add-at-in-Field
-statements-overflow_add-at-in-Field t c =
-    omega (
-      arith,
-      (let args = c.args in
-          let open-field = c.open_field in
-          field_within args.list.now _ _ open-field.ensures _ _ c.in-Field.is),
-    )
-
-pub statements-loop-sort-smaller : goal.statements-loop-sort-smaller
-statements-loop-sort-smaller t c =
-    omega (
-      arith,
-      (let args = c.args in
-          let open-field = c.open_field in
-          field_within args.list.now _ _ open-field.ensures _ _ c.in-Field.is),
-    )
 
 pub statements-loop-sort-preserved : goal.statements-loop-sort-preserved
 statements-loop-sort-preserved t c =
@@ -210,12 +111,7 @@ statements-loop-sort-preserved t c =
     let open-field = c.open_field in
     let payload-at = c.payload_at-payload in
     let statement = c.statement-field in (
-      omega (
-        arith,
-        (let args = c.args in
-            let open-field = c.open_field in
-            field_within args.list.now _ _ open-field.ensures _ _ c.in-Field.is),
-      ),
+      omega (arith, field_within c.args.list.now _ _ c.open_field.ensures _ _ c.in-Field.is),
       walk_next (all_steps _) _ loop.best _ _ _ loop.invariant.1 _ open-field.ensures _ _ c.in-Field.is _ payload-at.ensures _ statement.ensures _ c.or_lower-best.ensures,
     )
 

@@ -119,13 +119,6 @@ items-returns-in-Refused t c =
     let open-field = c.open_field in
     items_none args.list.now _ _ open-field.ensures (run_item args.widths.now args.depth) (run_block args.widths.now args.depth) _ _ _ loop.invariant.3 _ c.in-Refused.is
 
-pub items-payload_at-payload-requires : goal.items-payload_at-payload-requires
-items-payload_at-payload-requires t c =
-    let args = c.args in
-    let pre = c.requires in
-    let open-field = c.open_field in
-    (omega (arith, field_within args.list.now _ _ open-field.ensures _ _ c.in-Field.is), pre)
-
 pub items-item-requires : goal.items-item-requires
 items-item-requires t c =
     let args = c.args in
@@ -144,19 +137,6 @@ items-returns-then-item_value-selector t c =
     let item = c.item in
     items_taken args.list.now _ _ open-field.ensures (run_item args.widths.now args.depth) (run_block args.widths.now args.depth) _ _ _ loop.invariant.3
     _ _ c.in-Field.is _ payload-at.ensures c.in-Item.is _ item-value.ensures if1.true _ item.ensures
-
-pub items-overflow_add-at-in-Item : goal.items-overflow_add-at-in-Item
-items-overflow_add-at-in-Item t c =
-    let args = c.args in
-    let pre = c.requires in
-    let open-field = c.open_field in
-    omega (arith, field_within args.list.now _ _ open-field.ensures _ _ c.in-Field.is, pre)
-
-pub items-loop-sort-smaller : goal.items-loop-sort-smaller
-items-loop-sort-smaller t c =
-    let args = c.args in
-    let open-field = c.open_field in
-    omega (arith, field_within args.list.now _ _ open-field.ensures _ _ c.in-Field.is)
 
 pub items-loop-sort-preserved : goal.items-loop-sort-preserved
 items-loop-sort-preserved t c =
@@ -235,32 +215,12 @@ statements-returns-in-Refused t c =
     let open-field = c.open_field in
     all_done args.list.now _ _ open-field.ensures (run_statement args.widths.now args.depth) _ _ loop.invariant.3 _ c.in-Refused.is
 
-pub statements-payload_at-requires : goal.statements-payload_at-requires
-statements-payload_at-requires t c =
-    let args = c.args in
-    let pre = c.requires in
-    let open-field = c.open_field in
-    (omega (arith, field_within args.list.now _ _ open-field.ensures _ _ c.in-Field.is), pre)
-
 pub statements-statement-requires : goal.statements-statement-requires
 statements-statement-requires t c =
     let args = c.args in
     let open-field = c.open_field in
     let payload-at = c.payload_at in
     omega (arith, payload_within args.list.now _ _ open-field.ensures _ _ c.in-Field.is _ payload-at.ensures)
-
-pub statements-overflow_add-at-in-Field : goal.statements-overflow_add-at-in-Field
-statements-overflow_add-at-in-Field t c =
-    let args = c.args in
-    let pre = c.requires in
-    let open-field = c.open_field in
-    omega (arith, field_within args.list.now _ _ open-field.ensures _ _ c.in-Field.is, pre)
-
-pub statements-loop-sort-smaller : goal.statements-loop-sort-smaller
-statements-loop-sort-smaller t c =
-    let args = c.args in
-    let open-field = c.open_field in
-    omega (arith, field_within args.list.now _ _ open-field.ensures _ _ c.in-Field.is)
 
 pub statements-loop-sort-preserved : goal.statements-loop-sort-preserved
 statements-loop-sort-preserved t c =
