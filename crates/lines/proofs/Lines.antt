@@ -1,4 +1,5 @@
 -- Document 01, "Either side of each line": the cases marked (P), and "One case whole" from bytes to bytes, as one table under one theorem, which antt computes.
+use Rattle.std.specs.Prelude.{Ok, Err}
 use mathlib.Core.Path.{◌≡◌, refl}
 use mathlib.Core.Bool.{Bool, true, false, ◌&&◌}
 use mathlib.Core.List.{List, [], ◌∷◌}
@@ -8,7 +9,7 @@ use lib.ListN.{length}
 use Rattle.words.specs.Bits as bits
 use Rattle.words.specs.Operators as operators
 use Rattle.words.specs.Values.{Outcome, stopped, got}
-use Rattle.tagged.specs.Answers.{number_of}
+use Rattle.tagged.specs.Answers.{number_of, Answer}
 use Rattle.tagged.specs.Bytes as bytes
 use Rattle.tagged.specs.Sorts as sorts
 use Rattle.tagged.specs.Fields as fields
@@ -17,7 +18,6 @@ use Rattle.tagged.specs.Names as names
 use Rattle.tagged.specs.Refusals as refusals
 use Rattle.tagged.specs.Declarations as declarations
 use Rattle.tagged.specs.Declarations.{Declaration, register}
-use Rattle.tagged.specs.declared.answers.Answer.{Answer}
 use Rattle.tagged.specs.declared.sorts.Kind.{Kind}
 use Rattle.netlist.specs.Form as netlist_form
 use Rattle.netlist.specs.Reading as netlist_reading
@@ -44,12 +44,12 @@ same (a ∷ l) (b ∷ m) = eqb a b && same l m
 
 -- the answer is acceptance, or a refusal with this number and place
 abbrev pub accepts : Answer → Bool
-accepts Answer.Accepted = true
-accepts (Answer.Refused rule place) = false
+accepts (Ok _) = true
+accepts (Err e) = false
 
 abbrev pub refuses : ℕ → ℕ → Answer → Bool
-refuses number at Answer.Accepted = false
-refuses number at (Answer.Refused rule place) = eqb (number_of rule) number && eqb place at
+refuses number at (Ok _) = false
+refuses number at (Err e) = eqb (number_of e.rule) number && eqb e.place at
 
 -- the run gives this row
 abbrev pub gives : List ℕ → Outcome (List ℕ) → Bool

@@ -1,36 +1,30 @@
 // Document 01, "Either side of each line": the lines that are not proved by the table in proofs/, run by the proved code, a line each.
 #![tactic(auto)]
 
-use response::put_refusal;
 use std::io;
-use tagged::answers::Answer;
 use tagged::bytes::front;
-use tagged::limits::ModuleFile;
+use tagged::limits::LONGEST_MODULE;
 use verilog_check::check;
 
 // Writes what the check answers to a file.
 fn line(rt: &impl Print, name: &str, file: &[u8]) -> io::Result<()> {
     print!(rt; "{name}: ")?;
     match check(file) {
-        Answer::Accepted => rt.println("accepted"),
-        Answer::Refused(rule, place) => {
-            let mut text = [0u8; 64];
-            let size = put_refusal(&mut text, rule, place);
-            rt.write_all(front(&text, size))
-        }
+        Ok(()) => rt.println("accepted"),
+        Err(refusal) => println!(rt; "{refusal}"),
     }
 }
 
 // The longest module, and a byte more: rule 1 passes the first, whose zeros rule 2 then refuses.
 fn longest(rt: &impl Print) -> io::Result<()> {
-    let mut file = [0u8; ModuleFile::MAX + 1];
+    let mut file = [0u8; LONGEST_MODULE + 1];
     file[0] = 0x01;
     file[1] = 0x3F;
     file[2] = 0xFD;
     line(
         rt,
         "16,384 bytes, zeros in a module",
-        front(&file, ModuleFile::MAX),
+        front(&file, LONGEST_MODULE),
     )?;
     file[2] = 0xFE;
     line(rt, "16,385 bytes, zeros in a module", &file)

@@ -1,5 +1,7 @@
 -- What the listing shows is what it is to show: of an accepted module the name of a variable that there is, of an accepted netlist the field of a cell that there
 -- is, and else nothing. By the places at which declarations and cells are read.
+use Rattle.tagged.specs.Answers.{acceptance, refused, Answer}
+use Rattle.std.specs.Prelude.{Ok, Err}
 use mathlib.Core.Path.{◌≡◌, refl, ap, ◌∙◌}
 use mathlib.Core.Bool.{Bool, true, false, cond}
 use mathlib.Core.List.{List, [], ◌∷◌, ◌++◌}
@@ -14,7 +16,6 @@ use Rattle.tagged.specs.Fields.{Placed, unplaced, passed_bytes}
 use Rattle.tagged.specs.Parts.{first_name, name_in}
 use Rattle.tagged.specs.Declarations.{Declaration, name_of, declaration_read, declarations_at, declarations_in, declarations_step, after_declarations}
 use Rattle.tagged.specs.declared.answers.Rule.{Rule}
-use Rattle.tagged.specs.declared.answers.Answer.{Answer}
 use Rattle.tagged.specs.declared.parts.Part.{Part}
 use Rattle.netlist.specs.Answer.{netlist_answer}
 use Rattle.netlist.specs.Form.{cell_bytes}
@@ -42,25 +43,25 @@ settled_bytes file p = go (eqb p.start p.end) refl
     go false e = refl
 
 -- a variable of an accepted module: its name
-pub name_shown : (file netlist : List ℕ) → AllBytes file → module_answer file ≡ Answer.Accepted → (earlier : List Declaration) (d : Declaration) (later : List Declaration) →
+pub name_shown : (file netlist : List ℕ) → AllBytes file → module_answer file ≡ acceptance → (earlier : List Declaration) (d : Declaration) (later : List Declaration) →
     (module_in file).declarations ≡ earlier ++ (d ∷ later) → listed_bytes file netlist 1 (length earlier) ≡ name_of d
 unfolding listed_bytes listed_part module_part
 name_shown file netlist bytes accepted earlier d later split =
     rw accepted (settled_bytes file (name_part (length earlier) file) ∙ name_listed file bytes accepted earlier d later split)
 
 -- a cell of an accepted netlist: its field, with its header
-pub cell_shown : (file netlist : List ℕ) → AllBytes netlist → netlist_answer netlist ≡ Answer.Accepted → (earlier : List Cell) (c : Cell) (later : List Cell) →
+pub cell_shown : (file netlist : List ℕ) → AllBytes netlist → netlist_answer netlist ≡ acceptance → (earlier : List Cell) (c : Cell) (later : List Cell) →
     (netlist_in netlist).cells ≡ earlier ++ (c ∷ later) → listed_bytes file netlist 2 (length earlier) ≡ cell_bytes c
 unfolding listed_bytes listed_part netlist_part
 cell_shown file netlist bytes accepted earlier c later split =
     rw accepted (settled_bytes netlist (cell_part (length earlier) netlist) ∙ cell_listed netlist bytes accepted earlier c later split)
 
 -- nothing behind a refused file
-pub refused_module : (file netlist : List ℕ) (number : ℕ) {rule : Rule} {place : ℕ} → module_answer file ≡ Answer.Refused rule place → listed_bytes file netlist 1 number ≡ []
+pub refused_module : (file netlist : List ℕ) (number : ℕ) {rule : Rule} {place : ℕ} → module_answer file ≡ Err (refused rule place) → listed_bytes file netlist 1 number ≡ []
 unfolding listed_bytes listed_part module_part
 refused_module file netlist number refused = rw refused
 
-pub refused_netlist : (file netlist : List ℕ) (number : ℕ) {rule : Rule} {place : ℕ} → netlist_answer netlist ≡ Answer.Refused rule place → listed_bytes file netlist 2 number ≡ []
+pub refused_netlist : (file netlist : List ℕ) (number : ℕ) {rule : Rule} {place : ℕ} → netlist_answer netlist ≡ Err (refused rule place) → listed_bytes file netlist 2 number ≡ []
 unfolding listed_bytes listed_part netlist_part
 refused_netlist file netlist number refused = rw refused
 
@@ -76,8 +77,8 @@ placed_count (x ∷ l) = ap suc (placed_count l)
 
 -- a part that holds nothing shows nothing
 empty_shown : (file : List ℕ) (answer : Answer) (p : Part) → p.start ≡ p.end → part_bytes file (of_accepted answer p).start (of_accepted answer p).end ≡ []
-empty_shown file (Answer.Refused rule place) p e = refl
-empty_shown file Answer.Accepted p e =
+empty_shown file (Err r) p e = refl
+empty_shown file (Ok _) p e =
     let none_left : p.end - p.start ≡ 0 = omega (arith, e) in
     settled_bytes file p ∙ ap (λ (n : ℕ). take n (drop p.start file)) none_left
 

@@ -1,7 +1,7 @@
 -- A listing shows the bytes behind an operand: for a variable the name, a part of the module file; for a cell its field, a part of the netlist file. It gives
 -- an empty part where the file in question is refused or the operand (kind and number) names nothing.
-use Rattle.std.specs.Prelude.{cond, List, ℕ, ◌-◌, eqb, take, drop}
-use Rattle.tagged.specs.declared.answers.Answer.{Answer}
+use Rattle.std.specs.Prelude.{Ok, Err, cond, List, ℕ, ◌-◌, eqb, take, drop}
+use Rattle.tagged.specs.Answers.{Answer}
 use Rattle.tagged.specs.declared.parts.Part.{Part}
 use Rattle.netlist.specs.Answer.{netlist_answer}
 use Rattle.netlist.specs.Parts.{cell_part}
@@ -19,8 +19,8 @@ settled_part p = cond (eqb p.start p.end) empty_part p
 
 -- of an accepted file this part, of a refused one the empty one
 abbrev pub of_accepted : Answer → Part → Part
-of_accepted Answer.Accepted p = settled_part p
-of_accepted (Answer.Refused rule place) p = empty_part
+of_accepted (Ok _) p = settled_part p
+of_accepted (Err e) p = empty_part
 
 -- a variable's name in the module file, a cell's field in the netlist file
 unfoldable pub module_part : List ℕ → ℕ → Part

@@ -1,5 +1,6 @@
 -- A netlist without refusal, a predicate on lists, is one whose bytes are accepted; and an accepted file is the bytes of such a netlist.
 -- Refusal 1 by the lengths of what is written, refusal 2 by the laws of NetlistBytes; the rules on lists stand on both sides.
+use Rattle.std.specs.Prelude.{Ok}
 use mathlib.Core.Path.{◌≡◌, sym, ap, ◌∙◌, subst}
 use mathlib.Core.List.{List, [], append-nil}
 use Prim.Native.Nat.{ℕ, ◌+◌, ◌≤◌}
@@ -11,8 +12,7 @@ use Rattle.tagged.specs.Sorts.{tag_of}
 use Rattle.tagged.specs.Fields.{field_bytes, size_of}
 use Rattle.tagged.specs.Files.{file_answer}
 use Rattle.tagged.specs.declared.sorts.Sort.TheVariants as Sort
-use Rattle.tagged.specs.declared.fields.Step.{Step}
-use Rattle.tagged.specs.declared.answers.Answer.{Answer}
+use Rattle.tagged.specs.Answers.{acceptance}
 use Rattle.tagged.proofs.ListBytes.{field_whole, field_length}
 use Rattle.netlist.specs.Lists.{Netlist}
 use Rattle.netlist.specs.Form.{netlist_payload, netlist_bytes, netlist_form}
@@ -24,18 +24,18 @@ use Rattle.netlist.proofs.NetlistBytes.{form_written, lists_back, written_read}
 
 -- the parts of an accepted file
 pub record AnswerParts (file : List ℕ) : Type 0 where
-  pub fits : file_answer longest_netlist file ≡ Answer.Accepted
+  pub fits : file_answer longest_netlist file ≡ acceptance
   pub bytes : ℕ
-  pub form : netlist_form file ≡ Step.Past bytes
-  pub lists : lists_answer 3 (netlist_in file) ≡ Answer.Accepted
+  pub form : netlist_form file ≡ Ok bytes
+  pub lists : lists_answer 3 (netlist_in file) ≡ acceptance
 
-pub answer_parts : (file : List ℕ) → netlist_answer file ≡ Answer.Accepted → AnswerParts file
+pub answer_parts : (file : List ℕ) → netlist_answer file ≡ acceptance → AnswerParts file
 unfolding netlist_answer
 answer_parts file e =
     let p = accepted_parts (file_answer longest_netlist file) (netlist_form file) (lists_answer 3 (netlist_in file)) e in
     record { fits = p.1; bytes = p.0; form = p.2; lists = p.3 }
 
-pub parts_answer_lem : (file : List ℕ) → AnswerParts file → netlist_answer file ≡ Answer.Accepted
+pub parts_answer_lem : (file : List ℕ) → AnswerParts file → netlist_answer file ≡ acceptance
 unfolding netlist_answer
 parts_answer_lem file p = rw (p.fits, p.form) p.lists
 
@@ -50,7 +50,7 @@ file_written n h short =
     record { header = omega arith; short = short; outer = ap (λ (k : ℕ). k + 3) (sym size) ∙ sym long }
 
 -- the bytes of a netlist without refusal are accepted
-pub accepted_bytes : (n : Netlist) → WithoutRefusal n → netlist_answer (netlist_bytes n) ≡ Answer.Accepted
+pub accepted_bytes : (n : Netlist) → WithoutRefusal n → netlist_answer (netlist_bytes n) ≡ acceptance
 accepted_bytes n w =
     parts_answer_lem (netlist_bytes n)
     (record {
@@ -61,13 +61,13 @@ accepted_bytes n w =
     })
 
 -- and back: lists that fit, whose bytes are accepted, are without refusal
-pub bytes_accepted : (n : Netlist) → FitsBytes n → netlist_answer (netlist_bytes n) ≡ Answer.Accepted → WithoutRefusal n
+pub bytes_accepted : (n : Netlist) → FitsBytes n → netlist_answer (netlist_bytes n) ≡ acceptance → WithoutRefusal n
 bytes_accepted n h e =
     let p = answer_parts (netlist_bytes n) e in
     record { fits = h; short = (file_fits longest_netlist (netlist_bytes n) p.fits).short; accepted = ap (lists_answer 3) (sym (lists_back n h)) ∙ p.lists }
 
 -- an accepted file is the bytes of its lists, which are without refusal
-pub accepted_file : (file : List ℕ) → AllBytes file → netlist_answer file ≡ Answer.Accepted → (file ≡ netlist_bytes (netlist_in file)) × WithoutRefusal (netlist_in file)
+pub accepted_file : (file : List ℕ) → AllBytes file → netlist_answer file ≡ acceptance → (file ≡ netlist_bytes (netlist_in file)) × WithoutRefusal (netlist_in file)
 accepted_file file h e =
     let p = answer_parts file e in
     let r = written_read file p.bytes h p.fits p.form in

@@ -17,13 +17,8 @@ use Rattle.netlist.specs.declared.Cell.{Cell}
 use Rattle.netlist.specs.declared.Drive.{Drive}
 use Rattle.netlist.specs.Lists.{Netlist, operand_width, cell_width, cell_slots, operands_in}
 use Rattle.netlist.specs.Form.{cell_bytes, drive_bytes}
-use Rattle.netlist.specs.Rules.{width_of_cell, some_operand, operand_value_broken, operand_missing, operand_unlike, cell_unlike}
-use Rattle.netlist.specs.Rules.{cell_outside, cell_breaks, registers_from, not_next, drive_breaks, cells_base, drives_base}
-use Rattle.netlist.specs.Breaks.{CellAt, DriveAt, OperandAt, of_cell, of_drive, Breaks}
-use Rattle.netlist.specs.Breaks.{of_declaration, cells_width, operands_width, constant_value}
-use Rattle.netlist.specs.Breaks.{missing_variable, missing_cell, beyond_registers, other_register, unlike_variable}
-use Rattle.netlist.specs.Breaks.{unlike_cell, unlike_register, unlike_operand, unlike_each_other, unlike_operands}
-use Rattle.netlist.specs.Breaks.{wide_condition, unlike_first, unlike_second, unlike_vector, wide_bit, wide_fixed, wide_chosen, put_outside, fixed_outside, index_outside}
+use Rattle.netlist.specs.Rules.{width_of_cell, some_operand, operand_value_broken, operand_missing, operand_unlike, cell_unlike, cell_outside, cell_breaks, registers_from, not_next, drive_breaks, cells_base, drives_base}
+use Rattle.netlist.specs.Breaks.{CellAt, DriveAt, OperandAt, of_cell, of_drive, Breaks, of_declaration, cells_width, operands_width, constant_value, missing_variable, missing_cell, beyond_registers, other_register, unlike_variable, unlike_cell, unlike_register, unlike_operand, unlike_each_other, unlike_operands, wide_condition, unlike_first, unlike_second, unlike_vector, wide_bit, wide_fixed, wide_chosen, put_outside, fixed_outside, index_outside}
 use Rattle.tagged.specs.DeclarationPhrases.{NoWidth}
 use Rattle.tagged.proofs.TestLaws.{or_left, or_right, or_cases, not_so, unlike, unlike_ne}
 use Rattle.tagged.proofs.DeclarationTests.{no_width, width_no, not_fits, fits_not, phrase_tested, tested_phrase}
@@ -35,12 +30,12 @@ some test {l = a ∷ l} (Memᴰ.head same) h = or_left (test a) _ (rw same at h)
 some test {l = a ∷ l} (Memᴰ.tail m) h = or_right (test a) (some test m h)
 some test {o = o} {l = []} x5 h = elim x5 [ ]
 
-record Some (test : Operand → Bool) (l : List Operand) : Type 0 where
+record Holding (test : Operand → Bool) (l : List Operand) : Type 0 where
   pub which : Operand
   pub among : Memᴰ which l
   pub holds : test which ≡ true
 
-some_which : (test : Operand → Bool) (l : List Operand) → some_operand test l ≡ true → Some test l
+some_which : (test : Operand → Bool) (l : List Operand) → some_operand test l ≡ true → Holding test l
 some_which test [] e = absurd (false≢true e)
 some_which test (o ∷ l) e = or_cases (test o) (some_operand test l) e
     (λ h. record { which = o; among = Memᴰ.head refl; holds = h })

@@ -4,9 +4,9 @@ use mathlib.Core.List.{List, map}
 use Prim.Native.Nat.{ℕ, ◌≤◌}
 use native.Mathlib.Omega.{arith}
 use lib.ListN.{length, drop}
+use Rattle.tagged.specs.Answers.{acceptance}
 use Rattle.tagged.specs.Limits.{longest_netlist, most_variables}
 use Rattle.tagged.specs.Declarations.{declarations_in, width_of}
-use Rattle.tagged.specs.declared.answers.Answer.TheVariants as Answer
 use Rattle.tagged.proofs.FileLaws.{file_fits}
 use Rattle.netlist.specs.Reading.{netlist_in, lists_in}
 use Rattle.netlist.specs.Answer.{netlist_answer}
@@ -15,11 +15,11 @@ use Rattle.netlist.proofs.Accepted.{answer_parts}
 use Rattle.netlist.proofs.CycleWritten.{few_declared}
 
 -- an accepted file is short
-pub accepted_long : (file : List ℕ) → netlist_answer file ≡ Answer.Accepted → length file ≤ longest_netlist
+pub accepted_long : (file : List ℕ) → netlist_answer file ≡ acceptance → length file ≤ longest_netlist
 accepted_long file accepted = (file_fits longest_netlist file (answer_parts file accepted).fits).short
 
 -- its variables are those that its table tells
-module _ (file : List ℕ) (accepted : netlist_answer file ≡ Answer.Accepted) (payload : List ℕ) (part : payload ≡ drop 3 file) where
+module _ (file : List ℕ) (accepted : netlist_answer file ≡ acceptance) (payload : List ℕ) (part : payload ≡ drop 3 file) where
   declared : (netlist_in file).declarations ≡ declarations_in payload
   unfolding lists_in
   declared = ap declarations_in (sym part)

@@ -1,4 +1,6 @@
 -- Cells and drives and their bytes give each other back: once for all cells, by induction on what a cell holds (its slots and their shapes).
+use Rattle.tagged.specs.Answers.{fault_at}
+use Rattle.std.specs.Prelude.{Err}
 use mathlib.Core.Path.{◌≡◌, refl, sym, ap, ap₂, ◌∙◌, subst}
 use mathlib.Core.Bool.{Bool, true, false, cond, true≢false}
 use mathlib.Core.List.{List, [], ◌∷◌, ◌++◌, append-nil}
@@ -12,10 +14,9 @@ use Rattle.words.specs.declared.OneOperand.TheVariants as one
 use Rattle.words.specs.declared.TwoOperand.TheVariants as two
 use Rattle.tagged.specs.Bytes.{AllBytes, four_bytes, four_of}
 use Rattle.tagged.specs.Sorts.{tag_of, is_cell, is_sort}
-use Rattle.tagged.specs.Fields.{field_bytes, all_bytes_of, fixed_then, ended}
+use Rattle.tagged.specs.Fields.{faultless, field_bytes, all_bytes_of, fixed_then, ended}
 use Rattle.tagged.specs.declared.sorts.CellSort.{CellSort}
 use Rattle.tagged.specs.declared.sorts.Sort.{Sort}
-use Rattle.tagged.specs.declared.fields.Judged.{Judged}
 use Rattle.tagged.proofs.ByteLaws.{front, bytes_four, four_front, four_lt, bytes_drop}
 use Rattle.tagged.proofs.SortLaws.{is_itself}
 use Rattle.tagged.proofs.AllBytesLaws.{bytes_none, bytes_cons, four_bytes_lem, field_bytes_lem, all_bytes}
@@ -25,8 +26,9 @@ use Rattle.tagged.proofs.AnyPlace.{AnywhereBody, AnywhereJudge, fixed_anywhere, 
 use Rattle.tagged.proofs.ListBytes.{Stands, field_length}
 use Rattle.netlist.specs.declared.Operand.{Operand}
 use Rattle.netlist.specs.declared.Cell.{Cell}
+use Rattle.netlist.specs.declared.Slot.{Slot}
 use Rattle.netlist.specs.declared.Drive.{Drive}
-use Rattle.netlist.specs.Lists.{Slot, operand, byte, cell_sort_of, cell_width, cell_slots}
+use Rattle.netlist.specs.Lists.{cell_sort_of, cell_width, cell_slots}
 use Rattle.netlist.specs.Form.{operand_bytes, slot_bytes, cell_bytes, drive_bytes, Shape, an_operand, a_byte, shape_of, slots_by, cell_body, drive_body}
 use Rattle.netlist.specs.Reading.{operand_of, operand_in, cell_in, cell_read, drive_read}
 use Rattle.netlist.specs.Fits.{Every, FitsByte, FitsFour, operand_number, FitsOperand, FitsSlot, FitsCell, FitsDrive}
@@ -102,32 +104,32 @@ operand_bytes_lem (Operand.Cell w n) h = bytes_cons 2 (w ∷ four_bytes n) (lit<
 -- the shapes of some slots, and the slots of some shapes in a list of bytes
 shapes_of : List Slot → List Shape
 shapes_of [] = []
-shapes_of (operand o ∷ l) = an_operand ∷ shapes_of l
-shapes_of (byte k ∷ l) = a_byte ∷ shapes_of l
+shapes_of (Slot.Operand o ∷ l) = an_operand ∷ shapes_of l
+shapes_of (Slot.Byte k ∷ l) = a_byte ∷ shapes_of l
 
 slots_in : List Shape → List ℕ → List Slot
 slots_in [] l = []
-slots_in (an_operand ∷ s) l = operand (operand_in l) ∷ slots_in s (drop 6 l)
-slots_in (a_byte ∷ s) l = byte (get_or l 0 0) ∷ slots_in s (drop 1 l)
+slots_in (an_operand ∷ s) l = Slot.Operand (operand_in l) ∷ slots_in s (drop 6 l)
+slots_in (a_byte ∷ s) l = Slot.Byte (get_or l 0 0) ∷ slots_in s (drop 1 l)
 
 -- nothing is left where a payload has ended
-ended_empty : (base owner : ℕ) (l : List ℕ) → ended base owner l ≡ Judged.Fine → [] ≡ l
+ended_empty : (base owner : ℕ) (l : List ℕ) → ended base owner l ≡ faultless → [] ≡ l
 ended_empty base owner [] e = refl
 ended_empty base owner (x ∷ l) e = absurd (omega (arith, ended_tells base owner (x ∷ l) e))
 
 -- the first of these slots is an operand: its kind is one, and the others follow
-operand_fine : (s : List Shape) (base owner : ℕ) (l : List ℕ) → slots_by (an_operand ∷ s) base owner l ≡ Judged.Fine
-    → (get_or l 0 0 ≤ 2) × (6 ≤ length l) × (slots_by s (base + 6) owner (drop 6 l) ≡ Judged.Fine)
+operand_fine : (s : List Shape) (base owner : ℕ) (l : List ℕ) → slots_by (an_operand ∷ s) base owner l ≡ faultless
+    → (get_or l 0 0 ≤ 2) × (6 ≤ length l) × (slots_by s (base + 6) owner (drop 6 l) ≡ faultless)
 unfolding slots_by
 operand_fine s base owner l e = go (leb (get_or l 0 0) 2) refl e
   where
-    go : (t : Bool) → leb (get_or l 0 0) 2 ≡ t → cond t (fixed_then 6 (slots_by s) base owner l) (Judged.Refused owner) ≡ Judged.Fine
-        → (get_or l 0 0 ≤ 2) × (6 ≤ length l) × (slots_by s (base + 6) owner (drop 6 l) ≡ Judged.Fine)
+    go : (t : Bool) → leb (get_or l 0 0) 2 ≡ t → cond t (fixed_then 6 (slots_by s) base owner l) (Err (fault_at owner)) ≡ faultless
+        → (get_or l 0 0 ≤ 2) × (6 ≤ length l) × (slots_by s (base + 6) owner (drop 6 l) ≡ faultless)
     go true p q = let f = fixed_tells 6 (slots_by s) base owner l q in (leb-true (get_or l 0 0) 2 p, f.0, f.1)
     go false p q = absurd (let z : ◌≡◌ {A = ℕ} 0 1 = cc in omega arith)
 
 -- slots read without a fault are written as they stood
-slots_written : (s : List Shape) (base owner : ℕ) (l : List ℕ) → AllBytes l → slots_by s base owner l ≡ Judged.Fine → all_bytes_of slot_bytes (slots_in s l) ≡ l
+slots_written : (s : List Shape) (base owner : ℕ) (l : List ℕ) → AllBytes l → slots_by s base owner l ≡ faultless → all_bytes_of slot_bytes (slots_in s l) ≡ l
 unfolding slots_by all_bytes_of slots_in
 slots_written [] base owner l h e = ended_empty base owner l e
 slots_written (an_operand ∷ s) base owner l h e =
@@ -155,50 +157,50 @@ slots_anywhere (an_operand ∷ s) a o b p l e =
 slots_anywhere (a_byte ∷ s) a o b p l e = fixed_anywhere 1 (slots_by s) (slots_anywhere s) a o b p l e
 
 -- slots that are written are read as they were, without a fault
-slots_fine : (slots : List Slot) (base owner : ℕ) → slots_by (shapes_of slots) base owner (all_bytes_of slot_bytes slots) ≡ Judged.Fine
+slots_fine : (slots : List Slot) (base owner : ℕ) → slots_by (shapes_of slots) base owner (all_bytes_of slot_bytes slots) ≡ faultless
 unfolding slots_by shapes_of all_bytes_of ended
 slots_fine [] base owner = refl
-slots_fine (operand o ∷ l) base owner =
+slots_fine (Slot.Operand o ∷ l) base owner =
     let after = all_bytes_of slot_bytes l in
     let six : length (operand_bytes o) ≡ 6 = operand_length o in
     rw (operand_kind o after)
     (fixed_written 6 (slots_by (shapes_of l)) base owner (operand_bytes o ++ after) (omega (arith, length-append (operand_bytes o) after))
     (rw (drop_at (operand_bytes o) after 6 six) (slots_fine l (base + 6) owner)))
-slots_fine (byte k ∷ l) base owner = fixed_written 1 (slots_by (shapes_of l)) base owner (k ∷ all_bytes_of slot_bytes l) (omega arith) (slots_fine l (base + 1) owner)
+slots_fine (Slot.Byte k ∷ l) base owner = fixed_written 1 (slots_by (shapes_of l)) base owner (k ∷ all_bytes_of slot_bytes l) (omega arith) (slots_fine l (base + 1) owner)
 
 slots_back : (slots : List Slot) → Every FitsSlot slots → slots_in (shapes_of slots) (all_bytes_of slot_bytes slots) ≡ slots
 unfolding slots_in shapes_of all_bytes_of
 slots_back [] h = refl
-slots_back (operand o ∷ l) h =
+slots_back (Slot.Operand o ∷ l) h =
     let after = all_bytes_of slot_bytes l in
     let six : length (operand_bytes o) ≡ 6 = operand_length o in
-    ap₂ (λ (x : Operand) (y : List Slot). operand x ∷ y) (operand_front o after h.0.1)
+    ap₂ (λ (x : Operand) (y : List Slot). Slot.Operand x ∷ y) (operand_front o after h.0.1)
     (ap (slots_in (shapes_of l)) (drop_at (operand_bytes o) after 6 six) ∙ slots_back l h.1)
-slots_back (byte k ∷ l) h = ap (λ (y : List Slot). byte k ∷ y) (slots_back l h.1)
+slots_back (Slot.Byte k ∷ l) h = ap (λ (y : List Slot). Slot.Byte k ∷ y) (slots_back l h.1)
 
 slots_length : (slots : List Slot) → length (all_bytes_of slot_bytes slots) ≤ 6 * length slots
 unfolding all_bytes_of
 slots_length [] = omega arith
-slots_length (operand o ∷ l) = omega (arith, slots_length l, operand_length o, length-append (operand_bytes o) (all_bytes_of slot_bytes l))
-slots_length (byte k ∷ l) = omega (arith, slots_length l)
+slots_length (Slot.Operand o ∷ l) = omega (arith, slots_length l, operand_length o, length-append (operand_bytes o) (all_bytes_of slot_bytes l))
+slots_length (Slot.Byte k ∷ l) = omega (arith, slots_length l)
 
 slot_bytes_lem : (s : Slot) → FitsSlot s → AllBytes (slot_bytes s)
-slot_bytes_lem (operand o) h = operand_bytes_lem o h
-slot_bytes_lem (byte k) h = bytes_cons k [] h bytes_none
+slot_bytes_lem (Slot.Operand o) h = operand_bytes_lem o h
+slot_bytes_lem (Slot.Byte k) h = bytes_cons k [] h bytes_none
 
 -- cells
 
 -- a cell from its slots; what is missing counts as nothing
 operand_at : ℕ → List Slot → Operand
 operand_at n [] = Operand.Constant 0 0
-operand_at zero (operand o ∷ l) = o
-operand_at zero (byte k ∷ l) = Operand.Constant 0 0
+operand_at zero (Slot.Operand o ∷ l) = o
+operand_at zero (Slot.Byte k ∷ l) = Operand.Constant 0 0
 operand_at (suc n) (x ∷ l) = operand_at n l
 
 byte_at : ℕ → List Slot → ℕ
 byte_at n [] = 0
-byte_at zero (operand o ∷ l) = 0
-byte_at zero (byte k ∷ l) = k
+byte_at zero (Slot.Operand o ∷ l) = 0
+byte_at zero (Slot.Byte k ∷ l) = k
 byte_at (suc n) (x ∷ l) = byte_at n l
 
 cell_of : CellSort → ℕ → List Slot → Cell
@@ -284,13 +286,13 @@ pub cell_known : Known is_cell
 cell_known s is e = let f = cell_sort_lem s is in omega (arith, (tag_bounds f.0).0, ap tag_of f.1)
 
 -- a payload without a fault has a width byte, and its slots follow
-cell_fine : (at : ℕ) (c : CellSort) (l : List ℕ) → cell_body at (Sort.Cell c) l ≡ Judged.Fine
-    → (1 ≤ length l) × (slots_by (shape_of c) (at + 3 + 1) at (drop 1 l) ≡ Judged.Fine)
+cell_fine : (at : ℕ) (c : CellSort) (l : List ℕ) → cell_body at (Sort.Cell c) l ≡ faultless
+    → (1 ≤ length l) × (slots_by (shape_of c) (at + 3 + 1) at (drop 1 l) ≡ faultless)
 unfolding cell_body
 cell_fine at c l e = fixed_tells 1 (slots_by (shape_of c)) (at + 3) at l e
 
 -- what is read of a cell without a fault is written as it stood
-cell_written : (at : ℕ) (c : CellSort) (l : List ℕ) → AllBytes l → cell_body at (Sort.Cell c) l ≡ Judged.Fine
+cell_written : (at : ℕ) (c : CellSort) (l : List ℕ) → AllBytes l → cell_body at (Sort.Cell c) l ≡ faultless
     → cell_bytes (cell_read (Sort.Cell c) l) ≡ field_bytes (tag_of (Sort.Cell c)) l
 unfolding cell_bytes cell_read
 cell_written at c [] h e = absurd (omega (arith, (cell_fine at c [] e).0))
@@ -301,21 +303,21 @@ cell_written at c (w ∷ l) h e =
     ∙ ap (λ (y : List ℕ). w ∷ y) (slots_written (shape_of c) (at + 3 + 1) at l (bytes_drop 1 (w ∷ l) h) (cell_fine at c (w ∷ l) e).1) in
     ap₂ (λ (s : CellSort) (y : List ℕ). field_bytes (tag_of (Sort.Cell s)) y) p.0 whole
 
-pub cell_back : (at : ℕ) (s : Sort) (l : List ℕ) → AllBytes l → is_cell s ≡ true → cell_body at s l ≡ Judged.Fine → cell_bytes (cell_read s l) ≡ field_bytes (tag_of s) l
+pub cell_back : (at : ℕ) (s : Sort) (l : List ℕ) → AllBytes l → is_cell s ≡ true → cell_body at s l ≡ faultless → cell_bytes (cell_read s l) ≡ field_bytes (tag_of s) l
 cell_back at s l h is fine =
     let f = cell_sort_lem s is in
     subst (λ (s : Sort). cell_bytes (cell_read s l) ≡ field_bytes (tag_of s) l) (sym f.1)
     (cell_written at f.0 l h (ap (λ (s : Sort). cell_body at s l) (sym f.1) ∙ fine))
 
 -- a cell in bytes fits them
-cell_in_fits : (at : ℕ) (c : CellSort) (l : List ℕ) → AllBytes l → cell_body at (Sort.Cell c) l ≡ Judged.Fine → FitsCell (cell_read (Sort.Cell c) l)
+cell_in_fits : (at : ℕ) (c : CellSort) (l : List ℕ) → AllBytes l → cell_body at (Sort.Cell c) l ≡ faultless → FitsCell (cell_read (Sort.Cell c) l)
 unfolding cell_read
 cell_in_fits at c [] h e = absurd (omega (arith, (cell_fine at c [] e).0))
 cell_in_fits at c (w ∷ l) h e =
     let p = cell_parts c w l in
     (rw p.1 (h 0), subst (λ (y : List Slot). Every FitsSlot y) (sym p.2) (slots_fit (shape_of c) l (bytes_drop 1 (w ∷ l) h)))
 
-pub cell_fits : (at : ℕ) (s : Sort) (l : List ℕ) → AllBytes l → length l < 65536 → is_cell s ≡ true → cell_body at s l ≡ Judged.Fine → FitsCell (cell_read s l)
+pub cell_fits : (at : ℕ) (s : Sort) (l : List ℕ) → AllBytes l → length l < 65536 → is_cell s ≡ true → cell_body at s l ≡ faultless → FitsCell (cell_read s l)
 cell_fits at s l h short is fine =
     let f = cell_sort_lem s is in
     subst (λ (s : Sort). FitsCell (cell_read s l)) (sym f.1) (cell_in_fits at f.0 l h (ap (λ (s : Sort). cell_body at s l) (sym f.1) ∙ fine))
@@ -353,7 +355,7 @@ cell_stands c h = record {
   short = omega (arith, payload_short c);
   is = refl;
   fine = λ base. fixed_written 1 (slots_by (shape_of (cell_sort_of c))) (base + 3) base (cell_payload c) (omega arith)
-      (subst (λ (s : List Shape). slots_by s (base + 3 + 1) base (all_bytes_of slot_bytes (cell_slots c)) ≡ Judged.Fine) (sym (cell_shape c))
+      (subst (λ (s : List Shape). slots_by s (base + 3 + 1) base (all_bytes_of slot_bytes (cell_slots c)) ≡ faultless) (sym (cell_shape c))
       (slots_fine (cell_slots c) (base + 3 + 1) base));
   back = cell_in_lem (cell_sort_of c) (cell_width c) (all_bytes_of slot_bytes (cell_slots c))
       ∙ ap (cell_of (cell_sort_of c) (cell_width c))
@@ -385,20 +387,20 @@ abbrev drive_shape : List Shape
 drive_shape = an_operand ∷ []
 
 -- a payload without a fault is a drive's: it has a variable byte, and its operand follows
-pub drive_fine : (at : ℕ) (s : Sort) (l : List ℕ) → drive_body at s l ≡ Judged.Fine
-    → (is_sort Sort.Drive s ≡ true) × (1 ≤ length l) × (slots_by drive_shape (at + 3 + 1) at (drop 1 l) ≡ Judged.Fine)
+pub drive_fine : (at : ℕ) (s : Sort) (l : List ℕ) → drive_body at s l ≡ faultless
+    → (is_sort Sort.Drive s ≡ true) × (1 ≤ length l) × (slots_by drive_shape (at + 3 + 1) at (drop 1 l) ≡ faultless)
 unfolding drive_body
 drive_fine at s l e =
-    let c = sort_fine Sort.Drive s (fixed_then 1 (slots_by drive_shape) (at + 3) at l) at e in
+    let c = sort_fine Sort.Drive s (fixed_then 1 (slots_by drive_shape) (at + 3) at l) (fault_at at) e in
     let f = fixed_tells 1 (slots_by drive_shape) (at + 3) at l c.1 in
     (c.0, f.0, f.1)
 
-drive_pass : (at : ℕ) (s : Sort) (l : List ℕ) → is_sort Sort.Drive s ≡ true → 1 ≤ length l → slots_by drive_shape (at + 3 + 1) at (drop 1 l) ≡ Judged.Fine
-    → drive_body at s l ≡ Judged.Fine
+drive_pass : (at : ℕ) (s : Sort) (l : List ℕ) → is_sort Sort.Drive s ≡ true → 1 ≤ length l → slots_by drive_shape (at + 3 + 1) at (drop 1 l) ≡ faultless
+    → drive_body at s l ≡ faultless
 unfolding drive_body
 drive_pass at s l is h e = rw is (fixed_written 1 (slots_by drive_shape) (at + 3) at l h e)
 
-pub drive_back : (at : ℕ) (s : Sort) (l : List ℕ) → AllBytes l → is_sort Sort.Drive s ≡ true → drive_body at s l ≡ Judged.Fine
+pub drive_back : (at : ℕ) (s : Sort) (l : List ℕ) → AllBytes l → is_sort Sort.Drive s ≡ true → drive_body at s l ≡ faultless
     → drive_bytes (drive_read s l) ≡ field_bytes (tag_of s) l
 unfolding drive_bytes drive_read slots_in all_bytes_of
 drive_back at s [] h is e = absurd (omega (arith, (drive_fine at s [] e).1))
@@ -407,7 +409,7 @@ drive_back at s (v ∷ l) h is e =
     let whole : operand_bytes (operand_in l) ++ [] ≡ l = slots_written drive_shape (at + 3 + 1) at l (bytes_drop 1 (v ∷ l) h) f.2 in
     ap₂ (λ (t : ℕ) (y : List ℕ). field_bytes t (v ∷ y)) (eqb-true (tag_of Sort.Drive) (tag_of s) is) (sym (append-nil (operand_bytes (operand_in l))) ∙ whole)
 
-pub drive_fits : (at : ℕ) (s : Sort) (l : List ℕ) → AllBytes l → length l < 65536 → is_sort Sort.Drive s ≡ true → drive_body at s l ≡ Judged.Fine
+pub drive_fits : (at : ℕ) (s : Sort) (l : List ℕ) → AllBytes l → length l < 65536 → is_sort Sort.Drive s ≡ true → drive_body at s l ≡ faultless
     → FitsDrive (drive_read s l)
 unfolding drive_read
 drive_fits at s l h short is fine = (h 0, operand_fits (drop 1 l) (bytes_drop 1 l h))
@@ -422,7 +424,7 @@ drive_stands wanted is d h = record {
   short = omega (arith, operand_length d.operand);
   is = is;
   fine = λ base. drive_pass base Sort.Drive (d.variable ∷ operand_bytes d.operand) (is_itself Sort.Drive) (omega arith)
-      (rw (← append-nil (operand_bytes d.operand)) (slots_fine (operand d.operand ∷ []) (base + 3 + 1) base));
+      (rw (← append-nil (operand_bytes d.operand)) (slots_fine (Slot.Operand d.operand ∷ []) (base + 3 + 1) base));
   back = ap (λ (o : Operand). record { variable = d.variable; operand = o })
       (ap operand_in (sym (append-nil (operand_bytes d.operand))) ∙ operand_front d.operand [] h.1.1);
 }

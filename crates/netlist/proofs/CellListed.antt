@@ -5,11 +5,11 @@ use Prim.Native.Nat.{ℕ, ◌+◌, ◌-◌, ◌<◌}
 use native.Mathlib.Omega.{arith}
 use lib.ListN.{length, take, drop, length-drop}
 use lib.Seq.{drop_at, drop-drop}
+use Rattle.tagged.specs.Answers.{acceptance}
 use Rattle.tagged.specs.Limits.{longest_netlist}
 use Rattle.tagged.specs.Bytes.{AllBytes}
 use Rattle.tagged.specs.Fields.{all_bytes_of, placed_by, size_of, passed_bytes}
 use Rattle.tagged.specs.Declarations.{declaration_bytes, declarations_step, after_declarations}
-use Rattle.tagged.specs.declared.answers.Answer.TheVariants as Answer
 use Rattle.tagged.specs.declared.parts.Part.{Part}
 use Rattle.tagged.proofs.FileLaws.{file_fits}
 use Rattle.tagged.proofs.PlacedParts.{part_bytes_lem, placed_after, element_in_file, element_ends}
@@ -24,7 +24,7 @@ use Rattle.netlist.proofs.NetlistBytes.{PayloadRead, written_read}
 use Rattle.netlist.proofs.Accepted.{answer_parts}
 
 -- the cells of an accepted file: their bytes and places
-module _ (file : List ℕ) (h : AllBytes file) (e : netlist_answer file ≡ Answer.Accepted) where
+module _ (file : List ℕ) (h : AllBytes file) (e : netlist_answer file ≡ acceptance) where
   payload : PayloadRead 3 (drop 3 file)
   payload = let p = answer_parts file e in (written_read file p.bytes h p.fits p.form).payload
 
@@ -90,7 +90,7 @@ module _ (file : List ℕ) (h : AllBytes file) (e : netlist_answer file ≡ Answ
     part_holds = rw part_is (part_bytes_lem file (cell_bytes c) _ (record { start = place; end = end }) cell_there end_is)
 
 -- the part of every cell of an accepted file
-pub cell_listed : (file : List ℕ) → AllBytes file → netlist_answer file ≡ Answer.Accepted → (earlier : List Cell) (c : Cell) (later : List Cell) →
+pub cell_listed : (file : List ℕ) → AllBytes file → netlist_answer file ≡ acceptance → (earlier : List Cell) (c : Cell) (later : List Cell) →
     (netlist_in file).cells ≡ earlier ++ (c ∷ later) →
     let p : Part = cell_part (length earlier) file in take (p.end - p.start) (drop p.start file) ≡ cell_bytes c
 cell_listed = part_holds

@@ -4,7 +4,7 @@ pub mod CellBytes
 pub mod NetlistBytes
 pub mod FormLaws
 pub mod PutLaws
-pub mod NextLaws
+pub mod Listed
 pub mod RuleLaws
 pub mod RuleAnswers
 pub mod RuleWalks

@@ -1,5 +1,6 @@
 -- Whole netlists and their bytes give each other back: lists that fit are read as they were, and every file without a fault is exactly the bytes
 -- of its lists, at their places. By the laws of lists of fields, once for declarations, cells and drives.
+use Rattle.std.specs.Prelude.{Ok}
 use mathlib.Core.Path.{◌≡◌, refl, sym, ap, ap₂, ◌∙◌, subst}
 use mathlib.Core.Bool.{Bool, true, false}
 use mathlib.Core.List.{List, [], ◌∷◌, ◌++◌, append_assoc, append-nil}
@@ -11,14 +12,12 @@ use lib.Seq.{drop_at, take_all}
 use Rattle.tagged.specs.Limits.{longest_netlist}
 use Rattle.tagged.specs.Bytes.{AllBytes, four_bytes, four_of, two_bytes}
 use Rattle.tagged.specs.Sorts.{sort_of, tag_of, is_declaration, is_cell, is_sort}
-use Rattle.tagged.specs.Fields.{field_bytes, all_bytes_of, size_of, field_by, then_by, unplaced, placed_by, passed_bytes}
+use Rattle.tagged.specs.Fields.{faultless, field_bytes, all_bytes_of, size_of, field_by, then_by, unplaced, placed_by, passed_bytes, Step}
 use Rattle.tagged.specs.Files.{file_answer}
 use Rattle.tagged.specs.Declarations.{Declaration, input, register, declaration_bytes, declaration_body, declarations_step, declaration_read, declarations_at, declarations_in, after_declarations}
 use Rattle.tagged.specs.declared.sorts.DeclarationSort.{DeclarationSort}
 use Rattle.tagged.specs.declared.sorts.Sort.{Sort}
-use Rattle.tagged.specs.declared.fields.Judged.{Judged}
-use Rattle.tagged.specs.declared.fields.Step.{Step}
-use Rattle.tagged.specs.declared.answers.Answer.{Answer}
+use Rattle.tagged.specs.Answers.{fault_at, acceptance}
 use Rattle.tagged.proofs.ByteLaws.{four_lt, bytes_drop}
 use Rattle.tagged.proofs.SortLaws.{tag_back, same_sort}
 use Rattle.tagged.proofs.FieldLaws.{field_passed, passed_field}
@@ -66,7 +65,7 @@ read_fits DeclarationSort.Register l h short = let rest = bytes_drop 1 l h in re
   short = omega (arith, length-drop 5 l);
 }
 
-declaration_fits : (at : ℕ) (s : Sort) (l : List ℕ) → AllBytes l → length l < 65536 → is_declaration s ≡ true → declaration_body at s l ≡ Judged.Fine
+declaration_fits : (at : ℕ) (s : Sort) (l : List ℕ) → AllBytes l → length l < 65536 → is_declaration s ≡ true → declaration_body at s l ≡ faultless
     → FitsDeclaration (declaration_read s l)
 declaration_fits at s l h short is fine =
     let f = declaration_sort_lem s is in
@@ -119,19 +118,19 @@ module _ (n : Netlist) (h : FitsBytes n) where
   payload_is = append_assoc ds cs vs
 
   -- refusal 2 finds no fault
-  step_declarations : (base owner : ℕ) → declarations_step base owner (ds ++ (cs ++ vs)) ≡ Step.Past (length ds)
+  step_declarations : (base owner : ℕ) → declarations_step base owner (ds ++ (cs ++ vs)) ≡ Ok (length ds)
   unfolding ds cs vs
   step_declarations base owner = declarations_pass base owner (cs ++ vs) each_declaration (cells_stop n.cells n.drives)
 
-  step_cells : (base owner : ℕ) → cells_step base owner (cs ++ vs) ≡ Step.Past (length cs)
+  step_cells : (base owner : ℕ) → cells_step base owner (cs ++ vs) ≡ Ok (length cs)
   unfolding cells_step cs vs
   step_cells base owner = list_many is_cell cell_body cell_read cell_bytes base owner vs each_cell (drives_stop is_cell refl n.drives)
 
-  judge_drives : (base owner : ℕ) → drives_judge base owner vs ≡ Judged.Fine
+  judge_drives : (base owner : ℕ) → drives_judge base owner vs ≡ faultless
   unfolding drives_judge vs
   judge_drives base owner = until_stands (is_sort Sort.Drive) drive_body drive_read drive_bytes base owner each_drive
 
-  payload_fine : (base owner : ℕ) → then_by declarations_step (then_by cells_step drives_judge) base owner (netlist_payload n) ≡ Judged.Fine
+  payload_fine : (base owner : ℕ) → then_by declarations_step (then_by cells_step drives_judge) base owner (netlist_payload n) ≡ faultless
   payload_fine base owner =
       rw payload_is
       (then_passed declarations_step (then_by cells_step drives_judge) base owner (ds ++ (cs ++ vs)) (length ds) (step_declarations base owner)
@@ -139,7 +138,7 @@ module _ (n : Netlist) (h : FitsBytes n) where
       (then_passed cells_step drives_judge (base + length ds) owner (cs ++ vs) (length cs) (step_cells (base + length ds) owner)
       (rw (drop_at cs vs (length cs) refl) (judge_drives (base + length ds + length cs) owner)))))
 
-  pub form_written : netlist_form (netlist_bytes n) ≡ Step.Past (length (netlist_bytes n))
+  pub form_written : netlist_form (netlist_bytes n) ≡ Ok (length (netlist_bytes n))
   unfolding netlist_form netlist_bytes netlist_body tag_of sort_of
   form_written =
       let bytes = field_bytes (tag_of Sort.Netlist) (netlist_payload n) in
@@ -197,18 +196,18 @@ module _ (n : Netlist) (h : FitsBytes n) where
       (all_bytes drive_bytes n.drives (λ x m. drive_bytes_lem x (every_member FitsDrive x h.drives m))))
 
 -- those bytes read back as the same lists
-pub read_written : (n : Netlist) → FitsBytes n → (netlist_form (netlist_bytes n) ≡ Step.Past (length (netlist_bytes n))) × (netlist_in (netlist_bytes n) ≡ n)
+pub read_written : (n : Netlist) → FitsBytes n → (netlist_form (netlist_bytes n) ≡ Ok (length (netlist_bytes n))) × (netlist_in (netlist_bytes n) ≡ n)
 read_written n h = (form_written n h, lists_back n h)
 
 -- from bytes: every file without a fault is the bytes of its lists
 
 -- drives until the end: they take the whole list
-drives_run : (base owner : ℕ) (l : List ℕ) → AllBytes l → drives_judge base owner l ≡ Judged.Fine → (m : ℕ) × Run (is_sort Sort.Drive) drive_body base l m × (length l ≤ m)
+drives_run : (base owner : ℕ) (l : List ℕ) → AllBytes l → drives_judge base owner l ≡ faultless → (m : ℕ) × Run (is_sort Sort.Drive) drive_body base l m × (length l ≤ m)
 unfolding drives_judge
 drives_run = until_run (is_sort Sort.Drive) drive_body (λ at s p all fine. (drive_fine at s p fine).0)
 
 -- a step over cells counts the same bytes anywhere
-pub cells_anywhere : (base owner : ℕ) (l : List ℕ) (m : ℕ) → cells_step base owner l ≡ Step.Past m → cells_step 0 0 l ≡ Step.Past m
+pub cells_anywhere : (base owner : ℕ) (l : List ℕ) (m : ℕ) → cells_step base owner l ≡ Ok m → cells_step 0 0 l ≡ Ok m
 unfolding cells_step
 cells_anywhere base owner l m e = many_anywhere is_cell (field_by cell_body) (field_anywhere cell_body cell_anywhere) base owner 0 0 l m e
 
@@ -227,12 +226,12 @@ pub record PayloadRead (base : ℕ) (l : List ℕ) : Type 0 where
   -- how many bytes the declarations take, and the cells
   pub declared_bytes : cells_base base (lists_in l) ≡ base + passed_bytes (declarations_step 0 0 l)
   pub declared_within : passed_bytes (declarations_step 0 0 l) ≤ length l
-  pub celled : cells_step 0 0 (after_declarations l) ≡ Step.Past (passed_bytes (cells_step 0 0 (after_declarations l)))
+  pub celled : cells_step 0 0 (after_declarations l) ≡ Ok (passed_bytes (cells_step 0 0 (after_declarations l)))
   pub celled_bytes : drives_base base (lists_in l) ≡ cells_base base (lists_in l) + passed_bytes (cells_step 0 0 (after_declarations l))
 
 -- where the declarations take j bytes, and the cells k
-module _ (base owner : ℕ) (l : List ℕ) (h : AllBytes l) (j k : ℕ) (declared : declarations_step base owner l ≡ Step.Past j)
-    (celled : cells_step (base + j) owner (drop j l) ≡ Step.Past k) (driven : drives_judge (base + j + k) owner (drop k (drop j l)) ≡ Judged.Fine) where
+module _ (base owner : ℕ) (l : List ℕ) (h : AllBytes l) (j k : ℕ) (declared : declarations_step base owner l ≡ Ok j)
+    (celled : cells_step (base + j) owner (drop j l) ≡ Ok k) (driven : drives_judge (base + j + k) owner (drop k (drop j l)) ≡ faultless) where
   bytes_cells : AllBytes (drop j l)
   bytes_cells = bytes_drop j l h
 
@@ -308,7 +307,7 @@ module _ (base owner : ℕ) (l : List ℕ) (h : AllBytes l) (j k : ℕ) (declare
   passed_declarations : passed_bytes (declarations_step 0 0 l) ≡ j
   passed_declarations = ap passed_bytes (declarations_anywhere base owner l j declared)
 
-  past_cells : cells_step 0 0 (after_declarations l) ≡ Step.Past k
+  past_cells : cells_step 0 0 (after_declarations l) ≡ Ok k
   past_cells = ap (cells_step 0 0) from_cells ∙ cells_anywhere (base + j) owner (drop j l) k celled
 
   pub lists_read : PayloadRead base l
@@ -328,11 +327,11 @@ module _ (base owner : ℕ) (l : List ℕ) (h : AllBytes l) (j k : ℕ) (declare
         ∙ ap₂ (λ (b : ℕ) (vs : List Drive). placed_by drive_bytes b vs) (sym base_drives) the_drives;
     declared_bytes = base_cells ∙ ap (λ (n : ℕ). base + n) (sym passed_declarations);
     declared_within = omega (arith, passed_declarations, listed_declarations.within);
-    celled = past_cells ∙ ap (λ (s : Step). Step.Past (passed_bytes s)) (sym past_cells);
+    celled = past_cells ∙ ap (λ (s : Step). Ok (passed_bytes s)) (sym past_cells);
     celled_bytes = omega (arith, base_cells, base_drives, ap passed_bytes past_cells);
   }
 
-pub payload_read : (base owner : ℕ) (l : List ℕ) → AllBytes l → then_by declarations_step (then_by cells_step drives_judge) base owner l ≡ Judged.Fine → PayloadRead base l
+pub payload_read : (base owner : ℕ) (l : List ℕ) → AllBytes l → then_by declarations_step (then_by cells_step drives_judge) base owner l ≡ faultless → PayloadRead base l
 payload_read base owner l h e =
     let f = then_tells declarations_step (then_by cells_step drives_judge) base owner l e in
     let g = then_tells cells_step drives_judge (base + f.size) owner (drop f.size l) f.rest in
@@ -345,13 +344,13 @@ pub record FileRead (file : List ℕ) : Type 0 where
   pub payload : PayloadRead 3 (drop 3 file)
 
 -- a body without a fault is a netlist's
-pub body_fine : (at : ℕ) (s : Sort) (l : List ℕ) → netlist_body at s l ≡ Judged.Fine
-    → (is_sort Sort.Netlist s ≡ true) × (then_by declarations_step (then_by cells_step drives_judge) (at + 3) at l ≡ Judged.Fine)
+pub body_fine : (at : ℕ) (s : Sort) (l : List ℕ) → netlist_body at s l ≡ faultless
+    → (is_sort Sort.Netlist s ≡ true) × (then_by declarations_step (then_by cells_step drives_judge) (at + 3) at l ≡ faultless)
 unfolding netlist_body
-body_fine at s l e = sort_fine Sort.Netlist s (then_by declarations_step (then_by cells_step drives_judge) (at + 3) at l) at e
+body_fine at s l e = sort_fine Sort.Netlist s (then_by declarations_step (then_by cells_step drives_judge) (at + 3) at l) (fault_at at) e
 
 -- every accepted file is exactly the bytes of its lists
-pub written_read : (file : List ℕ) (m : ℕ) → AllBytes file → file_answer longest_netlist file ≡ Answer.Accepted → netlist_form file ≡ Step.Past m → FileRead file
+pub written_read : (file : List ℕ) (m : ℕ) → AllBytes file → file_answer longest_netlist file ≡ acceptance → netlist_form file ≡ Ok m → FileRead file
 unfolding netlist_form netlist_bytes tag_of
 written_read file m h e form =
     let fits = file_fits longest_netlist file e in

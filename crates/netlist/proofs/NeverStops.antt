@@ -1,5 +1,6 @@
 -- An accepted netlist never stops: from a row that fits, a cycle gives a row that fits, and so does each of any number of cycles.
 -- The values of the cells so far have the widths of their cells and fit them; by induction on the cells and on the drives.
+use Rattle.std.specs.Prelude.{None}
 use mathlib.Core.Path.{◌≡◌, refl, sym, ap, ◌∙◌}
 use mathlib.Core.Bool.{true, false, ◌||◌, not}
 use mathlib.Core.List.{List, [], ◌∷◌, ◌++◌, map, append_assoc, append-nil, map-append, Memᴰ}
@@ -21,16 +22,14 @@ use Rattle.tagged.specs.Declarations.{Declaration, width_of, variable_width, reg
 use Rattle.tagged.specs.Rows.{all_fit}
 use Rattle.tagged.specs.Cycles.{inputs_fit}
 use Rattle.tagged.specs.declared.answers.Rule.{Rule}
-use Rattle.tagged.specs.declared.answers.Answer.TheVariants as Answer
-use Rattle.tagged.specs.declared.answers.Found.{Found}
+use Rattle.tagged.specs.Answers.{acceptance, Found}
 use Rattle.tagged.proofs.RowLaws.{fits_at, fits_length}
 use Rattle.netlist.specs.declared.Operand.{Operand}
 use Rattle.netlist.specs.declared.Cell.{Cell}
 use Rattle.netlist.specs.declared.Drive.{Drive}
 use Rattle.netlist.specs.Lists.{Netlist, operand_width, cell_width, cell_slots, operands_in}
 use Rattle.netlist.specs.Form.{cell_bytes, drive_bytes}
-use Rattle.netlist.specs.Rules.{width_of_cell, some_operand, operand_value_broken, operand_missing, operand_unlike, cell_unlike}
-use Rattle.netlist.specs.Rules.{cell_outside, cell_breaks, registers_from, not_next, drive_breaks, cells_base, drives_base}
+use Rattle.netlist.specs.Rules.{width_of_cell, some_operand, operand_value_broken, operand_missing, operand_unlike, cell_unlike, cell_outside, cell_breaks, registers_from, not_next, drive_breaks, cells_base, drives_base}
 use Rattle.netlist.specs.Answer.{lists_answer}
 use Rattle.netlist.specs.Cycle.{operand_value, cell_value, cell_values, driven, netlist_cycle}
 use Rattle.tagged.proofs.TestLaws.{neither}
@@ -213,8 +212,8 @@ module _ (ds : List Declaration) (row : List ℕ) (fits : all_fit (map width_of 
   broken rule done base cells = first_broken (cell_breaks rule ds) done (placed_by cell_bytes base cells)
 
   cells_run : (done : List Cell) {values : List Value} (base : ℕ) (cells : List Cell) → Shaped (map cell_width done) values →
-      broken Rule.Value done base cells ≡ Found.Nowhere → broken Rule.Reference done base cells ≡ Found.Nowhere →
-      broken Rule.Widths done base cells ≡ Found.Nowhere → broken Rule.BitNumber done base cells ≡ Found.Nowhere → CellsRun done values cells
+      broken Rule.Value done base cells ≡ None → broken Rule.Reference done base cells ≡ None →
+      broken Rule.Widths done base cells ≡ None → broken Rule.BitNumber done base cells ≡ None → CellsRun done values cells
   unfolding cell_values cell_breaks placed_by
   cells_run done {values} base [] s v m u b = record { all = values; runs = refl; shaped = rw append-nil s }
   cells_run done {values} base (c ∷ cells) s v m u b =
@@ -260,8 +259,8 @@ module _ (ds : List Declaration) (row : List ℕ) (fits : all_fit (map width_of 
   drive_broken rule done base drives = first_broken (drive_breaks rule ds cells) done (placed_by drive_bytes base drives)
 
   drives_run : (done : List Drive) (next : List ℕ) (base : ℕ) (drives : List Drive) → all_fit (map width_of ds) next ≡ true →
-      drive_broken Rule.Value done base drives ≡ Found.Nowhere → drive_broken Rule.Reference done base drives ≡ Found.Nowhere →
-      drive_broken Rule.Widths done base drives ≡ Found.Nowhere → DrivesRun next drives
+      drive_broken Rule.Value done base drives ≡ None → drive_broken Rule.Reference done base drives ≡ None →
+      drive_broken Rule.Widths done base drives ≡ None → DrivesRun next drives
   unfolding driven drive_breaks placed_by
   drives_run done next base [] f v m u = record { after = next; runs = refl; fit = f }
   drives_run done next base (d ∷ drives) f v m u =
@@ -293,12 +292,12 @@ module _ (base : ℕ) (n : Netlist) (value : RulePasses base n Rule.Value) (refe
       record { after = d.after; runs = rw (eq-eqb (length row) (length ds) long, c.runs, d.runs); fits = d.fit }
 
 -- one cycle of an accepted netlist
-pub never_stops : (base : ℕ) (n : Netlist) → lists_answer base n ≡ Answer.Accepted → (row : List ℕ) → all_fit (map width_of n.declarations) row ≡ true →
+pub never_stops : (base : ℕ) (n : Netlist) → lists_answer base n ≡ acceptance → (row : List ℕ) → all_fit (map width_of n.declarations) row ≡ true →
     Steps (netlist_cycle n) n.declarations row
 never_stops base n e = let p = accepted_rules base n e in passing_steps base n p.value p.reference p.widths p.bits
 
 -- any number of cycles, each with its own inputs
-pub never_stops_ever : (base : ℕ) (n : Netlist) → lists_answer base n ≡ Answer.Accepted →
+pub never_stops_ever : (base : ℕ) (n : Netlist) → lists_answer base n ≡ acceptance →
     (row : List ℕ) (inputs : List (List ℕ)) → all_fit (map width_of n.declarations) row ≡ true →
     ((i : List ℕ) → Memᴰ i inputs → inputs_fit n.declarations i ≡ true) → Runs (netlist_cycle n) n.declarations row inputs
 never_stops_ever base n e = cycles_run (netlist_cycle n) n.declarations (never_stops base n e)

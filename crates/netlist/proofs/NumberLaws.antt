@@ -1,5 +1,6 @@
 -- What the code of a run computes is the cycle of an accepted netlist: each cell's number is that of its value, and each drive puts in its operand's.
 -- The values of the cells so far stand at the front of the code's values; by induction on the cells and on the drives.
+use Rattle.std.specs.Prelude.{None}
 use mathlib.Core.Path.{◌≡◌, refl, sym, ap, ◌∙◌}
 use mathlib.Core.Bool.{Bool, true, false, ◌&&◌, and-eq-true_iff, not}
 use mathlib.Core.List.{List, [], ◌∷◌, ◌++◌, map, map-append}
@@ -19,12 +20,11 @@ use Rattle.words.specs.declared.OneOperand.{OneOperand}
 use Rattle.words.specs.declared.OneOperand.TheVariants as one
 use Rattle.words.specs.declared.TwoOperand.{TwoOperand}
 use Rattle.words.specs.declared.TwoOperand.TheVariants as two
+use Rattle.tagged.specs.Answers.{acceptance}
 use Rattle.tagged.specs.Fields.{Placed, placed_by}
 use Rattle.tagged.specs.Declarations.{Declaration, width_of, variable_width, register_at}
 use Rattle.tagged.specs.Rows.{all_fit}
 use Rattle.tagged.specs.declared.answers.Rule.TheVariants as Rule
-use Rattle.tagged.specs.declared.answers.Answer.TheVariants as Answer
-use Rattle.tagged.specs.declared.answers.Found.TheVariants as Found
 use Rattle.tagged.proofs.TestLaws.{neither}
 use Rattle.tagged.proofs.RefusalLaws.{front_passes, NoneBroken, none, more, accepted_none}
 use Rattle.netlist.specs.declared.Operand.{Operand}
@@ -153,8 +153,8 @@ module _ (ds : List Declaration) (row : List ℕ) (fits : all_fit (map width_of 
   -- the cells that follow those so far: their values stand in order at the front of the code's
   cells_count : (done : List Cell) {values : List Value} (buffer : List ℕ) (base : ℕ) (cells : List Cell) → Shaped (map cell_width done) values →
       take (length values) buffer ≡ map number_of values → length values + length cells ≤ length buffer →
-      broken ds row fits Rule.Value done base cells ≡ Found.Nowhere → broken ds row fits Rule.Reference done base cells ≡ Found.Nowhere →
-      broken ds row fits Rule.Widths done base cells ≡ Found.Nowhere → broken ds row fits Rule.BitNumber done base cells ≡ Found.Nowhere →
+      broken ds row fits Rule.Value done base cells ≡ None → broken ds row fits Rule.Reference done base cells ≡ None →
+      broken ds row fits Rule.Widths done base cells ≡ None → broken ds row fits Rule.BitNumber done base cells ≡ None →
       (all : List Value) → cell_values ds row values cells ≡ got all →
       take (length all) (cell_numbers numbers buffer (length values) cells) ≡ map number_of all
   unfolding cell_values cell_numbers cell_breaks placed_by
@@ -221,7 +221,7 @@ module _ (n : Netlist) (row : List ℕ) (fits : all_fit (map width_of n.declarat
         value.cells reference.cells widths.cells bits.cells x.0 x.1 in
         drives_count ds row fits numbers same x.0 (cell_numbers numbers buffer 0 n.cells) c row numbers n.drives same after x.2
 
-  pub cycle_counts : (base : ℕ) → lists_answer base n ≡ Answer.Accepted → (after : List ℕ) → netlist_cycle n row ≡ got after → counted ≡ after
+  pub cycle_counts : (base : ℕ) → lists_answer base n ≡ acceptance → (after : List ℕ) → netlist_cycle n row ≡ got after → counted ≡ after
   unfolding lists_answer
   cycle_counts base e = go (accepted_none (netlist_broken base n) netlist_rules e)
     where

@@ -1,5 +1,6 @@
 -- A rule is broken nowhere just where no declaration, cell or drive and not the whole netlist breaks it; lists are accepted just where this is so of every rule
 -- that is looked for. By cases on where a place is found first.
+use Rattle.std.specs.Prelude.{None}
 use mathlib.Core.Path.{◌≡◌}
 use mathlib.Core.List.{[]}
 use Prim.Native.Nat.{ℕ}
@@ -7,8 +8,7 @@ use Rattle.tagged.specs.Fields.{placed_by}
 use Rattle.tagged.specs.Refusals.{first_broken}
 use Rattle.tagged.specs.Declarations.{declaration_broken}
 use Rattle.tagged.specs.declared.answers.Rule.{Rule}
-use Rattle.tagged.specs.declared.answers.Answer.TheVariants as Answer
-use Rattle.tagged.specs.declared.answers.Found.{Found}
+use Rattle.tagged.specs.Answers.{acceptance, Found}
 use Rattle.netlist.specs.Lists.{Netlist}
 use Rattle.netlist.specs.Form.{cell_bytes, drive_bytes}
 use Rattle.netlist.specs.Rules.{cell_breaks, drive_breaks, whole_broken, cells_base, drives_base, netlist_broken}
@@ -24,12 +24,12 @@ drive_broken rule base n = first_broken (drive_breaks rule n.declarations n.cell
 
 -- a rule is broken nowhere
 pub record RulePasses (base : ℕ) (n : Netlist) (rule : Rule) : Type 0 where
-  pub declarations : declaration_broken rule base n.declarations ≡ Found.Nowhere
-  pub cells : cell_broken rule base n ≡ Found.Nowhere
-  pub drives : drive_broken rule base n ≡ Found.Nowhere
-  pub whole : whole_broken rule n ≡ Found.Nowhere
+  pub declarations : declaration_broken rule base n.declarations ≡ None
+  pub cells : cell_broken rule base n ≡ None
+  pub drives : drive_broken rule base n ≡ None
+  pub whole : whole_broken rule n ≡ None
 
-pub nowhere_rule : (base : ℕ) (n : Netlist) (rule : Rule) → netlist_broken base n rule ≡ Found.Nowhere → RulePasses base n rule
+pub nowhere_rule : (base : ℕ) (n : Netlist) (rule : Rule) → netlist_broken base n rule ≡ None → RulePasses base n rule
 unfolding netlist_broken
 nowhere_rule base n rule e =
     let d = nowhere_both (declaration_broken rule base n.declarations) _ e in
@@ -37,7 +37,7 @@ nowhere_rule base n rule e =
     let w = nowhere_both (drive_broken rule base n) _ c.1 in
     record { declarations = d.0; cells = c.0; drives = w.0; whole = w.1 }
 
-pub rule_nowhere : {base : ℕ} {n : Netlist} {rule : Rule} → RulePasses base n rule → netlist_broken base n rule ≡ Found.Nowhere
+pub rule_nowhere : {base : ℕ} {n : Netlist} {rule : Rule} → RulePasses base n rule → netlist_broken base n rule ≡ None
 unfolding netlist_broken
 rule_nowhere p = rw (p.declarations, p.cells, p.drives, p.whole)
 
@@ -51,7 +51,7 @@ pub record RulesPass (base : ℕ) (n : Netlist) : Type 0 where
   pub bits : RulePasses base n Rule.BitNumber
   pub cells : RulePasses base n Rule.Cells
 
-pub accepted_rules : (base : ℕ) (n : Netlist) → lists_answer base n ≡ Answer.Accepted → RulesPass base n
+pub accepted_rules : (base : ℕ) (n : Netlist) → lists_answer base n ≡ acceptance → RulesPass base n
 unfolding lists_answer
 accepted_rules base n e = go (accepted_none (netlist_broken base n) netlist_rules e)
   where
@@ -66,7 +66,7 @@ accepted_rules base n e = go (accepted_none (netlist_broken base n) netlist_rule
       cells = nowhere_rule base n Rule.Cells cells;
     }
 
-pub rules_accepted : {base : ℕ} {n : Netlist} → RulesPass base n → lists_answer base n ≡ Answer.Accepted
+pub rules_accepted : {base : ℕ} {n : Netlist} → RulesPass base n → lists_answer base n ≡ acceptance
 unfolding lists_answer
 rules_accepted {base} {n} p =
     none_accepted (netlist_broken base n)

@@ -1,5 +1,7 @@
 -- The lists of a netlist are refused by a rule at a place exactly when that is the first place that breaks the rule and nothing breaks a lower one,
 -- and accepted exactly when nothing breaks any rule. By the tests that find the phrases, and by the order of places and of rules.
+use Rattle.tagged.specs.Answers.{acceptance, refused, number_of, Found}
+use Rattle.std.specs.Prelude.{Err, Some, None}
 use mathlib.Core.Path.{◌≡◌, refl, sym, ◌∙◌}
 use mathlib.Core.Logic.{◌↔◌}
 use mathlib.Core.Bool.{false}
@@ -10,10 +12,7 @@ use lib.ListN.{length}
 use Rattle.tagged.specs.Fields.{placed_by, field_bytes}
 use Rattle.tagged.specs.Refusals.{or_else, first_refusal}
 use Rattle.tagged.specs.Declarations.{Declaration, declaration_bytes, declaration_breaks, declaration_broken}
-use Rattle.tagged.specs.Answers.{number_of}
 use Rattle.tagged.specs.declared.answers.Rule.{Rule}
-use Rattle.tagged.specs.declared.answers.Answer.{Answer}
-use Rattle.tagged.specs.declared.answers.Found.{Found}
 use Rattle.netlist.specs.declared.Cell.{Cell}
 use Rattle.netlist.specs.declared.Drive.{Drive}
 use Rattle.netlist.specs.Lists.{Netlist}
@@ -21,8 +20,7 @@ use Rattle.netlist.specs.Form.{cell_bytes, drive_bytes}
 use Rattle.netlist.specs.Rules.{cell_breaks, drive_breaks, whole_broken, cells_base, drives_base, netlist_broken}
 use Rattle.netlist.specs.Answer.{netlist_rules, lists_answer}
 use Rattle.netlist.specs.Breaks.{Breaks, WholeBreaks, Unbroken, FirstPlace, of_field, of_whole, RefusedFor}
-use Rattle.tagged.proofs.RefusalLaws.{at_not_nowhere, passes_nowhere, OneOf, one, other, at_one, one_at, FirstRule}
-use Rattle.tagged.proofs.RefusalLaws.{accepted_none, none_accepted, none_each, each_none, refused_first, first_refused, first_lower, lower_first, first_broken_lem}
+use Rattle.tagged.proofs.RefusalLaws.{one_rule, one_place, at_not_nowhere, passes_nowhere, OneOf, one, other, at_one, one_at, FirstRule, accepted_none, none_accepted, none_each, each_none, refused_first, first_refused, first_lower, lower_first, first_broken_lem}
 use Rattle.tagged.proofs.PlaceLaws.{BrokenAt, nowhere_none, none_nowhere, broken_from, broken_below, at_broken, at_least, least_at}
 use Rattle.netlist.proofs.PassedRules.{cell_broken, drive_broken, RulePasses, nowhere_rule, rule_nowhere}
 use Rattle.netlist.proofs.RuleAnswers.{rising}
@@ -68,13 +66,13 @@ module _ (base : ℕ) (n : Netlist) where
     drive_from = broken_from drive_bytes drive_some (drive_breaks rule n.declarations n.cells) (drives_base base n) n.drives
 
     -- the least place that a test finds in a list is the one that is found first
-    least_declared : (p : ℕ) → D p → ((q : ℕ) → D q → p ≤ q) → declaration_broken rule base n.declarations ≡ Found.At p
+    least_declared : (p : ℕ) → D p → ((q : ℕ) → D q → p ≤ q) → declaration_broken rule base n.declarations ≡ Some p
     least_declared = least_at declaration_bytes declaration_some (declaration_breaks rule) base n.declarations
 
-    least_celled : (p : ℕ) → C p → ((q : ℕ) → C q → p ≤ q) → cell_broken rule base n ≡ Found.At p
+    least_celled : (p : ℕ) → C p → ((q : ℕ) → C q → p ≤ q) → cell_broken rule base n ≡ Some p
     least_celled = least_at cell_bytes cell_some (cell_breaks rule n.declarations) (cells_base base n) n.cells
 
-    least_driven : (p : ℕ) → R p → ((q : ℕ) → R q → p ≤ q) → drive_broken rule base n ≡ Found.At p
+    least_driven : (p : ℕ) → R p → ((q : ℕ) → R q → p ≤ q) → drive_broken rule base n ≡ Some p
     least_driven = least_at drive_bytes drive_some (drive_breaks rule n.declarations n.cells) (drives_base base n) n.drives
 
     -- what is found after the cells, and after the declarations
@@ -85,23 +83,23 @@ module _ (base : ℕ) (n : Netlist) where
     after_declarations = or_else (cell_broken rule base n) after_cells
 
     -- no test holds: nothing is broken
-    none_tested : {p : ℕ} → declaration_broken rule base n.declarations ≡ Found.Nowhere → cell_broken rule base n ≡ Found.Nowhere →
-        drive_broken rule base n ≡ Found.Nowhere → Tested base n rule p → ⊥
+    none_tested : {p : ℕ} → declaration_broken rule base n.declarations ≡ None → cell_broken rule base n ≡ None →
+        drive_broken rule base n ≡ None → Tested base n rule p → ⊥
     none_tested {p} nd nc nr (in_declarations x) = nowhere_none _ _ nd p x
     none_tested {p} nd nc nr (in_cells x) = nowhere_none _ _ nc p x
     none_tested {p} nd nc nr (in_drives x) = nowhere_none _ _ nr p x
 
-    none_declared : ((p : ℕ) → Breaks base n rule p → ⊥) → declaration_broken rule base n.declarations ≡ Found.Nowhere
+    none_declared : ((p : ℕ) → Breaks base n rule p → ⊥) → declaration_broken rule base n.declarations ≡ None
     none_declared never = none_nowhere _ _ (λ p x. never p (tested_breaks base n (in_declarations x)))
 
-    none_celled : ((p : ℕ) → Breaks base n rule p → ⊥) → cell_broken rule base n ≡ Found.Nowhere
+    none_celled : ((p : ℕ) → Breaks base n rule p → ⊥) → cell_broken rule base n ≡ None
     none_celled never = none_nowhere _ _ (λ p x. never p (tested_breaks base n (in_cells x)))
 
-    none_driven : ((p : ℕ) → Breaks base n rule p → ⊥) → drive_broken rule base n ≡ Found.Nowhere
+    none_driven : ((p : ℕ) → Breaks base n rule p → ⊥) → drive_broken rule base n ≡ None
     none_driven never = none_nowhere _ _ (λ p x. never p (tested_breaks base n (in_drives x)))
 
     -- the rule is found nowhere exactly when nothing breaks it
-    nowhere_unbroken : netlist_broken base n rule ≡ Found.Nowhere → Unbroken base n rule
+    nowhere_unbroken : netlist_broken base n rule ≡ None → Unbroken base n rule
     nowhere_unbroken e = record {
       fields = λ p b. none_tested passes.declarations passes.cells passes.drives (breaks_tested base n b);
       whole = λ w. go (whole_case base n rule passes.drives) w;
@@ -114,7 +112,7 @@ module _ (base : ℕ) (n : Netlist) where
         go (wholly f w) v = at_not_nowhere (sym f ∙ passes.whole)
         go (not_at_all f never) v = never v
 
-    unbroken_nowhere : Unbroken base n rule → netlist_broken base n rule ≡ Found.Nowhere
+    unbroken_nowhere : Unbroken base n rule → netlist_broken base n rule ≡ None
     unbroken_nowhere u = rule_nowhere (record {
       declarations = none_declared u.fields;
       cells = none_celled u.fields;
@@ -122,23 +120,23 @@ module _ (base : ℕ) (n : Netlist) where
       whole = go (whole_case base n rule (none_driven u.fields));
     })
       where
-        go : WholeCase base n rule → whole_broken rule n ≡ Found.Nowhere
+        go : WholeCase base n rule → whole_broken rule n ≡ None
         go (wholly f w) = absurd (u.whole w)
         go (not_at_all f never) = f
 
     -- the rule is found at p exactly when that is the first place that breaks it
-    at_place : (p : ℕ) → netlist_broken base n rule ≡ Found.At p → FirstPlace base n rule p
+    at_place : (p : ℕ) → netlist_broken base n rule ≡ Some p → FirstPlace base n rule p
     unfolding netlist_broken
     at_place p e = declared (at_one (declaration_broken rule base n.declarations) _ e)
       where
-        whole : declaration_broken rule base n.declarations ≡ Found.Nowhere → cell_broken rule base n ≡ Found.Nowhere → drive_broken rule base n ≡ Found.Nowhere →
-            whole_broken rule n ≡ Found.At p → WholeCase base n rule → FirstPlace base n rule p
+        whole : declaration_broken rule base n.declarations ≡ None → cell_broken rule base n ≡ None → drive_broken rule base n ≡ None →
+            whole_broken rule n ≡ Some p → WholeCase base n rule → FirstPlace base n rule p
         whole nd nc nr f (wholly g w) =
             let zeroth : p ≡ 0 = cc in
             of_whole (λ q b. none_tested nd nc nr (breaks_tested base n b)) w zeroth
         whole nd nc nr f (not_at_all g never) = at_not_nowhere (sym f ∙ g)
 
-        driven : declaration_broken rule base n.declarations ≡ Found.Nowhere → cell_broken rule base n ≡ Found.Nowhere →
+        driven : declaration_broken rule base n.declarations ≡ None → cell_broken rule base n ≡ None →
             OneOf (drive_broken rule base n) (whole_broken rule n) p → FirstPlace base n rule p
         driven nd nc (one f) = of_field (tested_breaks base n (in_drives here)) (λ q b. least q (breaks_tested base n b))
           where
@@ -151,7 +149,7 @@ module _ (base : ℕ) (n : Netlist) where
             least q (in_drives x) = at_least drive_bytes drive_some (drive_breaks rule n.declarations n.cells) (drives_base base n) n.drives p f q x
         driven nd nc (other nr f) = whole nd nc nr f (whole_case base n rule nr)
 
-        celled : declaration_broken rule base n.declarations ≡ Found.Nowhere →
+        celled : declaration_broken rule base n.declarations ≡ None →
             OneOf (cell_broken rule base n) after_cells p → FirstPlace base n rule p
         celled nd (one f) = of_field (tested_breaks base n (in_cells here)) (λ q b. least q (breaks_tested base n b))
           where
@@ -176,17 +174,17 @@ module _ (base : ℕ) (n : Netlist) where
             least q (in_drives x) = omega (arith, declaration_below here, drive_from x)
         declared (other nd f) = celled nd (at_one (cell_broken rule base n) _ f)
 
-    place_at : {p : ℕ} → FirstPlace base n rule p → netlist_broken base n rule ≡ Found.At p
+    place_at : {p : ℕ} → FirstPlace base n rule p → netlist_broken base n rule ≡ Some p
     unfolding netlist_broken
     place_at {p} (of_field b least) = go (breaks_tested base n b)
       where
-        none_declared_below : cells_base base n ≤ p → declaration_broken rule base n.declarations ≡ Found.Nowhere
+        none_declared_below : cells_base base n ≤ p → declaration_broken rule base n.declarations ≡ None
         none_declared_below h = none_nowhere _ _ (λ q x. omega (arith, declaration_below x, least q (tested_breaks base n (in_declarations x))))
 
-        none_celled_below : drives_base base n ≤ p → cell_broken rule base n ≡ Found.Nowhere
+        none_celled_below : drives_base base n ≤ p → cell_broken rule base n ≡ None
         none_celled_below h = none_nowhere _ _ (λ q x. omega (arith, cell_below x, least q (tested_breaks base n (in_cells x))))
 
-        go : Tested base n rule p → or_else (declaration_broken rule base n.declarations) after_declarations ≡ Found.At p
+        go : Tested base n rule p → or_else (declaration_broken rule base n.declarations) after_declarations ≡ Some p
         go (in_declarations x) = one_at (one (least_declared p x (λ q y. least q (tested_breaks base n (in_declarations y)))))
         go (in_cells x) =
             one_at (other (none_declared_below (cell_from x)) (one_at (one (least_celled p x (λ q y. least q (tested_breaks base n (in_cells y)))))))
@@ -197,18 +195,18 @@ module _ (base : ℕ) (n : Netlist) where
     place_at {p} (of_whole never w zeroth) =
         one_at (other (none_declared never) (one_at (other (none_celled never) (one_at (other (none_driven never) (go (whole_case base n rule (none_driven never))))))))
       where
-        go : WholeCase base n rule → whole_broken rule n ≡ Found.At p
+        go : WholeCase base n rule → whole_broken rule n ≡ Some p
         go (wholly f v) = rw (f, zeroth)
         go (not_at_all f none) = absurd (none w)
 
   -- a rule is one of those that are looked for, or is found nowhere
   data Listed (rule : Rule) : Type 0 where
     listed : Memᴰ rule netlist_rules → Listed rule
-    unlisted : netlist_broken base n rule ≡ Found.Nowhere → Listed rule
+    unlisted : netlist_broken base n rule ≡ None → Listed rule
 
   not_tested : (rule : Rule) → ((earlier : List Declaration) (d : Declaration) → declaration_breaks rule earlier d ≡ false) →
       ((earlier : List Cell) (c : Cell) → cell_breaks rule n.declarations earlier c ≡ false) →
-      ((earlier : List Drive) (d : Drive) → drive_breaks rule n.declarations n.cells earlier d ≡ false) → whole_broken rule n ≡ Found.Nowhere → Listed rule
+      ((earlier : List Drive) (d : Drive) → drive_breaks rule n.declarations n.cells earlier d ≡ false) → whole_broken rule n ≡ None → Listed rule
   not_tested rule d c r w = unlisted (rule_nowhere (record {
     declarations = passes_nowhere (declaration_breaks rule) [] _ (λ before p x s. d before x);
     cells = passes_nowhere (cell_breaks rule n.declarations) [] _ (λ before p x s. c before x);
@@ -233,7 +231,7 @@ module _ (base : ℕ) (n : Netlist) where
   rule_listed Rule.Buffer = not_tested Rule.Buffer (λ e d. refl) (λ e c. refl) (λ e d. refl) refl
   rule_listed Rule.Row = not_tested Rule.Row (λ e d. refl) (λ e c. refl) (λ e d. refl) refl
 
-  refused_for : (rule : Rule) (p : ℕ) → lists_answer base n ≡ Answer.Refused rule p → RefusedFor base n rule p
+  refused_for : (rule : Rule) (p : ℕ) → lists_answer base n ≡ Err (refused rule p) → RefusedFor base n rule p
   unfolding lists_answer
   refused_for rule p e = record {
     place = at_place rule p (first_broken_lem (netlist_broken base n) f);
@@ -243,42 +241,42 @@ module _ (base : ℕ) (n : Netlist) where
       f : FirstRule (netlist_broken base n) rule p netlist_rules
       f = refused_first (netlist_broken base n) netlist_rules e
 
-      go : (lower : Rule) → number_of lower < number_of rule → Listed lower → netlist_broken base n lower ≡ Found.Nowhere
+      go : (lower : Rule) → number_of lower < number_of rule → Listed lower → netlist_broken base n lower ≡ None
       go lower less (listed m) = first_lower (netlist_broken base n) rising f lower m less
       go lower less (unlisted h) = h
 
-  for_refused : (rule : Rule) (p : ℕ) → RefusedFor base n rule p → lists_answer base n ≡ Answer.Refused rule p
+  for_refused : (rule : Rule) (p : ℕ) → RefusedFor base n rule p → lists_answer base n ≡ Err (refused rule p)
   unfolding lists_answer
   for_refused rule p r = go (rule_listed rule)
     where
-      go : Listed rule → first_refusal (netlist_broken base n) netlist_rules ≡ Answer.Refused rule p
+      go : Listed rule → first_refusal (netlist_broken base n) netlist_rules ≡ Err (refused rule p)
       go (listed m) = first_refused (netlist_broken base n)
           (lower_first (netlist_broken base n) rising m (place_at rule r.place) (λ lower i less. unbroken_nowhere lower (r.lowest lower less)))
       go (unlisted h) = at_not_nowhere (sym (place_at rule r.place) ∙ h)
 
-  accepted_for : lists_answer base n ≡ Answer.Accepted → (rule : Rule) → Unbroken base n rule
+  accepted_for : lists_answer base n ≡ acceptance → (rule : Rule) → Unbroken base n rule
   unfolding lists_answer
   accepted_for e rule = nowhere_unbroken rule (go (rule_listed rule))
     where
-      go : Listed rule → netlist_broken base n rule ≡ Found.Nowhere
+      go : Listed rule → netlist_broken base n rule ≡ None
       go (listed m) = none_each (netlist_broken base n) (accepted_none (netlist_broken base n) netlist_rules e) rule m
       go (unlisted h) = h
 
-  for_accepted : ((rule : Rule) → Unbroken base n rule) → lists_answer base n ≡ Answer.Accepted
+  for_accepted : ((rule : Rule) → Unbroken base n rule) → lists_answer base n ≡ acceptance
   unfolding lists_answer
   for_accepted u = none_accepted (netlist_broken base n) (each_none (netlist_broken base n) netlist_rules (λ rule m. unbroken_nowhere rule (u rule)))
 
   -- refused by this rule at this place exactly when document 01 says so
-  pub refused_exactly : (rule : Rule) (p : ℕ) → (lists_answer base n ≡ Answer.Refused rule p) ↔ RefusedFor base n rule p
+  pub refused_exactly : (rule : Rule) (p : ℕ) → (lists_answer base n ≡ Err (refused rule p)) ↔ RefusedFor base n rule p
   refused_exactly rule p = (refused_for rule p, for_refused rule p)
 
   -- accepted exactly when nothing breaks any rule
-  pub accepted_exactly : (lists_answer base n ≡ Answer.Accepted) ↔ ((rule : Rule) → Unbroken base n rule)
+  pub accepted_exactly : (lists_answer base n ≡ acceptance) ↔ ((rule : Rule) → Unbroken base n rule)
   accepted_exactly = (accepted_for, for_accepted)
 
   -- so a netlist is refused by one rule at one place, or by none
   pub refused_once : {rule other : Rule} {p q : ℕ} → RefusedFor base n rule p → RefusedFor base n other q → (rule ≡ other) × (p ≡ q)
   refused_once {rule} {other} {p} {q} a b =
-      let e : lists_answer base n ≡ Answer.Refused rule p = for_refused rule p a in
-      let f : lists_answer base n ≡ Answer.Refused other q = for_refused other q b in
-      (cc, cc)
+      let e : lists_answer base n ≡ Err (refused rule p) = for_refused rule p a in
+      let f : lists_answer base n ≡ Err (refused other q) = for_refused other q b in
+      (one_rule (sym e ∙ f), one_place (sym e ∙ f))

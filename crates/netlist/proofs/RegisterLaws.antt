@@ -1,14 +1,13 @@
 -- The numbers of the registers: each is a register's, each register is among them, and they rise. By induction on the declarations.
 -- And one turn of the loop that lists them.
 use mathlib.Core.Path.{◌≡◌, refl, sym, ap, ◌∙◌}
-use mathlib.Core.Bool.{true, false, cond, false≢true}
+use mathlib.Core.Bool.{Bool, true, false, cond, false≢true}
 use mathlib.Core.List.{List, [], ◌∷◌, ◌++◌, map, append_assoc}
 use Prim.Native.Nat.{ℕ, zero, suc, ◌+◌, ◌<◌}
 use native.Mathlib.Omega.{arith}
 use lib.ListN.{length, get_or, take, drop, set, length-map, get_or-map}
 use lib.Seq.{drop-cons, take-suc-set}
 use Rattle.tagged.specs.Declarations.{Declaration, input, register, is_register, register_at}
-use Rattle.tagged.proofs.TableLaws.{mark_of}
 use Rattle.netlist.specs.Rules.{registers_from}
 
 -- the number v, where the first declaration has the number `from`, is a register's
@@ -55,43 +54,34 @@ registers_rise from (register w initial name ∷ ds) i zero less h = absurd (ome
 registers_rise from (register w initial name ∷ ds) zero (suc j) less h = omega (arith, (registers_marked (from + 1) ds j (omega arith)).counted)
 registers_rise from (register w initial name ∷ ds) (suc i) (suc j) less h = registers_rise (from + 1) ds i j (omega arith) (omega arith)
 
--- a register is marked, an input is not
-mark_register : (d : Declaration) → (mark_of d ≡ 0 → ⊥) → is_register d ≡ true
-mark_register (input w name) some = absurd (some refl)
-mark_register (register w initial name) some = refl
-
-mark_input : (d : Declaration) → mark_of d ≡ 0 → is_register d ≡ false
-mark_input (input w name) none = refl
-mark_input (register w initial name) none = absurd (omega arith)
-
 -- the loop has come to the index `at` of the marks, and listed so many numbers
-module _ (ds : List Declaration) (marks : List ℕ) (marked : map mark_of ds ≡ marks) (at : ℕ) (within : at < length marks) (numbers : List ℕ) (count : ℕ)
+module _ (ds : List Declaration) (marks : List Bool) (marked : map is_register ds ≡ marks) (at : ℕ) (within : at < length marks) (numbers : List ℕ) (count : ℕ)
     (going : take count numbers ++ registers_from at (drop at ds) ≡ registers_from 0 ds) where
   abbrev here : Declaration
   here = get_or ds at (input 0 [])
 
   ahead : drop at ds ≡ here ∷ drop (at + 1) ds
   ahead =
-      let long : length ds ≡ length marks = sym (length-map ds mark_of) ∙ ap length marked in
+      let long : length ds ≡ length marks = sym (length-map ds is_register) ∙ ap length marked in
       let one : suc at ≡ at + 1 = omega arith in
       rw one at (drop-cons ds at (input 0 []) (omega arith))
 
-  mark_here : mark_of here ≡ get_or marks at 0
-  mark_here = sym (get_or-map mark_of ds at (input 0 [])) ∙ ap (λ (l : List ℕ). get_or l at 0) marked
+  mark_here : is_register here ≡ get_or marks at false
+  mark_here = sym (get_or-map is_register ds at (input 0 [])) ∙ ap (λ (l : List Bool). get_or l at false) marked
 
   turn : registers_from at (drop at ds) ≡ cond (is_register here) (at ∷ registers_from (at + 1) (drop (at + 1) ds)) (registers_from (at + 1) (drop (at + 1) ds))
   unfolding registers_from
   turn = rw ahead
 
-  pub register_listed : (get_or marks at 0 ≡ 0 → ⊥) → count < length numbers →
+  pub register_listed : get_or marks at false ≡ true → count < length numbers →
       take (count + 1) (set numbers count at) ++ registers_from (at + 1) (drop (at + 1) ds) ≡ registers_from 0 ds
-  register_listed some room =
+  register_listed is_marked room =
       let one : suc count ≡ count + 1 = omega arith in
-      let is = mark_register here (λ e. some (sym mark_here ∙ e)) in
+      let is = mark_here ∙ is_marked in
       let later = registers_from (at + 1) (drop (at + 1) ds) in
       ap (λ (l : List ℕ). l ++ later) (rw one at (take-suc-set numbers count at room))
       ∙ append_assoc (take count numbers) (at ∷ []) later
       ∙ ap (λ (l : List ℕ). take count numbers ++ l) (sym (rw is at turn)) ∙ going
 
-  pub input_passed : get_or marks at 0 ≡ 0 → take count numbers ++ registers_from (at + 1) (drop (at + 1) ds) ≡ registers_from 0 ds
-  input_passed none = ap (λ (l : List ℕ). take count numbers ++ l) (sym (rw (mark_input here (mark_here ∙ none)) at turn)) ∙ going
+  pub input_passed : get_or marks at false ≡ false → take count numbers ++ registers_from (at + 1) (drop (at + 1) ds) ≡ registers_from 0 ds
+  input_passed none = ap (λ (l : List ℕ). take count numbers ++ l) (sym (rw (mark_here ∙ none) at turn)) ∙ going

@@ -1,5 +1,6 @@
 -- What is refused by every rule at once, from what its parts are refused for: operands, a cell, a drive, a list walked one by one, a netlist.
 -- By the laws of the lower of two refusals.
+use Rattle.std.specs.Prelude.{None}
 use mathlib.Core.Path.{◌≡◌, refl, sym, ap, ap₂, ◌∙◌}
 use mathlib.Core.Bool.{Bool, true, false, cond, ◌||◌, not, or-false, or_assoc, or_comm}
 use mathlib.Core.List.{List, [], ◌∷◌, ◌++◌}
@@ -11,10 +12,8 @@ use Rattle.words.specs.Widths.{is_width}
 use Rattle.tagged.specs.Limits.{most_variables}
 use Rattle.tagged.specs.Fields.{Placed, placed_by}
 use Rattle.tagged.specs.Refusals.{first_broken, or_else, found_if, first_refusal, lower_refusal}
-use Rattle.tagged.specs.Answers.{number_of}
+use Rattle.tagged.specs.Answers.{acceptance, number_of, Answer, Found}
 use Rattle.tagged.specs.Declarations.{Declaration, variable_width, declaration_broken}
-use Rattle.tagged.specs.declared.answers.Answer.{Answer}
-use Rattle.tagged.specs.declared.answers.Found.{Found}
 use Rattle.tagged.specs.declared.answers.Rule.{Rule}
 use Rattle.tagged.proofs.DeclarationSizes.{variables_few}
 use Rattle.tagged.proofs.RefusalLaws.{Rising, order_rising, nowhere_both, Agrees, agree_none, agree_more, same_refusal}
@@ -22,11 +21,11 @@ use Rattle.tagged.proofs.LowerLaws.{lower_accepted, lower_joined, refusal_both, 
 use Rattle.netlist.specs.declared.Operand.{Operand}
 use Rattle.netlist.specs.declared.Cell.{Cell}
 use Rattle.netlist.specs.declared.Drive.{Drive}
+use Rattle.netlist.specs.declared.rules.Known.{Known}
 use Rattle.netlist.specs.Lists.{Netlist, operand_width, cell_width, cell_slots, operands_in}
 use Rattle.netlist.specs.Form.{cell_bytes, drive_bytes}
-use Rattle.netlist.specs.Rules.{some_operand, operand_value_broken, operand_missing, operand_unlike, cell_unlike, cell_outside, cell_breaks}
-use Rattle.netlist.specs.Rules.{not_next, drive_breaks, whole_broken, cells_base, drives_base, netlist_broken}
-use Rattle.netlist.specs.WalkAnswers.{answer_of, operands_answer, one_answer, list_answer, whole_answer, declaring, rest_answer, KnownVariables}
+use Rattle.netlist.specs.Rules.{some_operand, operand_value_broken, operand_missing, operand_unlike, cell_unlike, cell_outside, cell_breaks, not_next, drive_breaks, whole_broken, cells_base, drives_base, netlist_broken}
+use Rattle.netlist.specs.WalkAnswers.{answer_of, operands_answer, one_answer, list_answer, whole_answer, declaring, rest_answer, Knows}
 use Rattle.netlist.specs.Answer.{netlist_rules, lists_answer}
 
 -- the rules stand in the order of their numbers
@@ -98,18 +97,18 @@ module _ (ds : List Declaration) (cs : List Cell) (place : ℕ) where
       (or_comm (cell_unlike c) (some_operand (operand_unlike ds cs) os)) (or-false (cell_outside c))
 
   -- a drive: the register that it names, and its operand
-  pub drive_joined : (before : List Drive) (d : Drive) {variables registers : List ℕ} {earlier : ℕ} {own operand answer : Answer} →
-      KnownVariables ds variables registers → length before ≡ earlier →
-      own ≡ answer_of false (leb (length registers) earlier || not (eqb d.variable (get_or registers earlier 0)))
-      (not (eqb (operand_width d.operand) (get_or variables d.variable 0))) false place →
+  pub drive_joined : (before : List Drive) (d : Drive) {known : Known} {earlier : ℕ} {own operand answer : Answer} →
+      Knows ds cs known → length before ≡ earlier →
+      own ≡ answer_of false (leb (length known.registers.now) earlier || not (eqb d.variable (get_or known.registers.now earlier 0)))
+      (not (eqb (operand_width d.operand) (get_or known.variables.now d.variable 0))) false place →
       operand ≡ operands_answer ds cs (d.operand ∷ []) place → answer ≡ lower_refusal own operand →
       answer ≡ one_answer (λ rule. drive_breaks rule ds cs) before d place
   unfolding one_answer first_refusal drive_breaks not_next answer_of
-  drive_joined before d {own = first} known before-it own operand answer =
+  drive_joined before d {own = first} knows before-it own operand answer =
       let o = d.operand in
       let beyond = not_next ds before d in
       let unlike = not (eqb (operand_width o) (variable_width ds d.variable)) in
-      let tested : first ≡ answer_of false beyond unlike false place = rw (known.widths, known.numbers, before-it) own in
+      let tested : first ≡ answer_of false beyond unlike false place = rw (knows.variables, knows.registers, before-it) own in
       answer ∙ ap₂ lower_refusal tested (operand ∙ one_operand_lem o)
       ∙ sym (answer_or false (operand_value_broken o) beyond (operand_missing ds cs o) unlike (operand_unlike ds cs o) false false place)
       ∙ ap (λ (w : Bool). answer_of (operand_value_broken o) (beyond || operand_missing ds cs o) w false place) (or_comm unlike (operand_unlike ds cs o))
@@ -118,7 +117,7 @@ module _ (ds : List Declaration) (cs : List Cell) (place : ℕ) where
 pub record Walking {A : Type 0} (breaks : Rule → List A → A → Bool) (whole best : Answer) (earlier : List A) (left : List (Placed A)) : Type 0 where
   pub joined : lower_refusal best (list_answer breaks earlier left) ≡ whole
 
-pub walking_start : {A : Type 0} (breaks : Rule → List A → A → Bool) (l : List (Placed A)) → Walking breaks (list_answer breaks [] l) Answer.Accepted [] l
+pub walking_start : {A : Type 0} (breaks : Rule → List A → A → Bool) (l : List (Placed A)) → Walking breaks (list_answer breaks [] l) acceptance [] l
 walking_start breaks l = record { joined = refl }
 
 module _ {A : Type 0} {breaks : Rule → List A → A → Bool} {whole best : Answer} {earlier : List A} {left : List (Placed A)}
@@ -167,7 +166,7 @@ module _ (base : ℕ) (n : Netlist) where
   unfolding rest_broken cell_breaks drive_breaks whole_broken
   known_enough = agree_more refl (λ value. agree_more refl (λ name. agree_more refl (λ count. all_known (nowhere_both _ _ count).0)))
     where
-      all_known : declaration_broken Rule.Count base n.declarations ≡ Found.Nowhere →
+      all_known : declaration_broken Rule.Count base n.declarations ≡ None →
           Agrees (declared_or known) (declared_or n.declarations) (Rule.Reference ∷ Rule.Widths ∷ Rule.BitNumber ∷ Rule.Cells ∷ [])
       all_known e =
           let all : known ≡ n.declarations = take_all most_variables n.declarations (variables_few base n.declarations e) in

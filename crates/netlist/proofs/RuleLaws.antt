@@ -27,8 +27,8 @@ no_bit (Cell.Put w v n b) put fixed chosen = absurd (put w v n b refl)
 no_bit (Cell.FixedBit w v n) put fixed chosen = absurd (fixed w v n refl)
 no_bit (Cell.ChosenBit w v i) put fixed chosen = absurd (chosen w v i refl)
 
--- as many as there are numbers in their list
-pub counted : {A : Type 0} (f : A → ℕ) (items : List A) {l : List ℕ} → map f items ≡ l → length items ≡ length l
+-- as many as there are in their list
+pub counted : {A B : Type 0} (f : A → B) (items : List A) {l : List B} → map f items ≡ l → length items ≡ length l
 counted f items e = sym (length-map items f) ∙ ap length e
 
 -- a cell takes at least ten bytes

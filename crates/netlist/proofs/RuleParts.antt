@@ -1,5 +1,7 @@
 -- The parts of a file to which refusals 1 and 2 do not apply, as the code that looks for the other refusals takes them.
+use Rattle.std.specs.Prelude.{Ok}
 use mathlib.Core.Path.{◌≡◌, refl, sym, ap, ap₂, ◌∙◌, subst}
+use mathlib.Core.Bool.{Bool, false}
 use mathlib.Core.List.{List, [], map, ◌∷◌}
 use Prim.Native.Nat.{ℕ, ◌+◌, ◌^◌, ◌≤◌}
 use native.Mathlib.Omega.{arith}
@@ -9,29 +11,27 @@ use Rattle.tagged.specs.Limits.{most_variables, longest_netlist}
 use Rattle.tagged.specs.Fields.{passed_bytes, unplaced, placed_by}
 use Rattle.tagged.specs.Files.{file_answer}
 use Rattle.tagged.specs.Refusals.{first_broken, first_refusal}
-use Rattle.tagged.specs.Declarations.{Declaration, width_of, declarations_step, declarations_at, declarations_in, after_declarations}
-use Rattle.tagged.specs.Declarations.{declaration_breaks, declaration_broken, declarations_answer, variable_table}
-use Rattle.tagged.specs.Answers.{number_of}
+use Rattle.tagged.specs.Declarations.{Declaration, width_of, is_register, declarations_step, declarations_at, declarations_in, after_declarations, declaration_breaks, declaration_broken, declarations_answer, variable_table}
+use Rattle.tagged.specs.Answers.{acceptance, number_of, Answer}
 use Rattle.tagged.specs.declared.declarations.VariableTable.{VariableTable}
-use Rattle.tagged.specs.declared.answers.Answer.{Answer}
 use Rattle.tagged.specs.declared.answers.Rule.{Rule}
-use Rattle.tagged.specs.declared.fields.Step.TheVariants as Step
 use Rattle.tagged.proofs.FileLaws.{file_fits}
 use Rattle.tagged.proofs.LowerLaws.{refusal_same}
 use Rattle.tagged.proofs.DeclarationRules.{declared_only}
-use Rattle.tagged.proofs.TableLaws.{mark_of, told_widths, told_marks, marks_long}
+use Rattle.tagged.proofs.TableLaws.{told_widths, told_marks, marks_long}
 use Rattle.netlist.specs.Lists.{Netlist}
-use Rattle.netlist.specs.Form.{cell_bytes, drive_bytes, cells_step, netlist_form}
+use Rattle.netlist.specs.declared.rules.Known.{Known}
+use Rattle.netlist.specs.Form.{cell_bytes, drive_bytes, netlist_form}
 use Rattle.netlist.specs.Reading.{cells_at, drives_at, lists_in, netlist_in}
 use Rattle.netlist.specs.Rules.{registers_from, cells_base, drives_base}
 use Rattle.netlist.specs.Answer.{netlist_rules}
-use Rattle.netlist.specs.WalkAnswers.{cells_end, parts_answer, declaring, rest_answer, KnownVariables, most_listed}
+use Rattle.netlist.specs.WalkAnswers.{cells_end, parts_answer, declaring, rest_answer, Knows, most_listed}
 use Rattle.netlist.proofs.NetlistBytes.{PayloadRead, written_read}
 use Rattle.netlist.proofs.RuleLaws.{few_cells}
 use Rattle.netlist.proofs.RuleWalks.{front_known}
 
 -- the payload of the file
-module _ (file : List ℕ) (bytes : AllBytes file) (accepted : file_answer longest_netlist file ≡ Answer.Accepted) (formed : netlist_form file ≡ Step.Past (length file))
+module _ (file : List ℕ) (bytes : AllBytes file) (accepted : file_answer longest_netlist file ≡ acceptance) (formed : netlist_form file ≡ Ok (length file))
     (payload : List ℕ) (part : payload ≡ drop 3 file) where
   pub payload_long : length payload ≤ 32765
   payload_long = let fits = file_fits longest_netlist file accepted in omega (arith, ap length part, length-drop 3 file, fits.short)
@@ -64,20 +64,21 @@ module _ (file : List ℕ) (bytes : AllBytes file) (accepted : file_answer longe
     unfolding variable_table
     count_is = ap (λ (t : VariableTable). t.count) made
 
-    pub first_known : {variables marks numbers : List ℕ} → variables ≡ take table.count table.widths → marks ≡ take table.count table.registers →
-        ((ds : List Declaration) → map mark_of ds ≡ marks → numbers ≡ registers_from 0 ds) →
-        KnownVariables (take most_variables (netlist_in file).declarations) variables numbers
-    first_known widths marks numbers = record {
-      widths =
+    pub first_known : {known : Known} {marks : List Bool} → known.variables.now ≡ take table.count table.widths → marks ≡ take table.count table.registers →
+        ((ds : List Declaration) → map is_register ds ≡ marks → known.registers.now ≡ registers_from 0 ds) → known.cells.now ≡ [] →
+        Knows (take most_variables (netlist_in file).declarations) [] known
+    first_known widths marks numbers none = record {
+      variables =
           ap (λ (ds : List Declaration). map width_of (take most_variables ds)) netlist_declarations
-          ∙ front_known width_of most_variables (declarations_in payload) count_is (told_widths (declarations_in payload) table made) ∙ sym widths;
-      numbers =
+          ∙ front_known 0 width_of most_variables (declarations_in payload) count_is (told_widths (declarations_in payload) table made) ∙ sym widths;
+      registers =
           ap (λ (ds : List Declaration). registers_from 0 (take most_variables ds)) netlist_declarations
           ∙ sym (numbers (take most_variables (declarations_in payload))
-          (front_known mark_of most_variables (declarations_in payload) count_is (told_marks (declarations_in payload) table made) ∙ sym marks));
+          (front_known false is_register most_variables (declarations_in payload) count_is (told_marks (declarations_in payload) table made) ∙ sym marks));
+      cells = sym none;
     }
 
-    pub first_few : {marks : List ℕ} → marks ≡ take table.count table.registers → length marks ≤ most_variables
+    pub first_few : {marks : List Bool} → marks ≡ take table.count table.registers → length marks ≤ most_variables
     first_few marks = omega (arith, ap length marks, length-take table.count table.registers, marks_long (declarations_in payload) table made)
 
   -- what follows the declarations
@@ -88,12 +89,10 @@ module _ (file : List ℕ) (bytes : AllBytes file) (accepted : file_answer longe
     pub taken_few : taken ≤ 32765
     taken_few = omega (arith, count, read.declared_within, payload_long)
 
-    pub after_asked : (3 + taken + length after ≤ 2 ^ 40) × (cells_step 0 0 after ≡ Step.Past (cells_end after))
-        × (length (unplaced (cells_at 0 after)) ≤ most_listed)
+    pub after_asked : (3 + taken + length after ≤ 2 ^ 40) × (length (unplaced (cells_at 0 after)) ≤ most_listed)
     unfolding lists_in
     after_asked = (
       omega (arith, taken_few, payload_long, ap length rest, length-drop taken payload),
-      subst (λ (l : List ℕ). cells_step 0 0 l ≡ Step.Past (cells_end l)) (sym after_is) read.celled,
       subst (λ (l : List ℕ). length (unplaced (cells_at 0 l)) ≤ most_listed) (sym after_is)
           (few_cells (lists_in payload) (omega (arith, ap length read.written, payload_long))),
     )

@@ -1,5 +1,6 @@
 -- Rules 3 to 8 and 12 on lists imply that every number fits its bytes, and that the bytes are few: so refusals 1 and 2 have nothing to add.
 -- By what each rule gives of one declaration, cell or drive, and the counts that rules 5, 6 and 12 bound.
+use Rattle.std.specs.Prelude.{Some, None}
 use mathlib.Core.Path.{◌≡◌, refl, sym, ◌∙◌}
 use mathlib.Core.Bool.{Bool, true, false, cond, not, ◌&&◌, true≢false}
 use mathlib.Core.List.{List, [], ◌∷◌, ◌++◌, Memᴰ}
@@ -19,8 +20,7 @@ use Rattle.tagged.specs.Names.{is_digit, is_name_byte, all_name_bytes, is_name_l
 use Rattle.tagged.specs.Declarations.{Declaration, input, register, name_of, is_register, declaration_bytes, value_broken, declaration_breaks}
 use Rattle.tagged.specs.declared.sorts.Sort.TheVariants as Sort
 use Rattle.tagged.specs.declared.answers.Rule.TheVariants as Rule
-use Rattle.tagged.specs.declared.answers.Answer.TheVariants as Answer
-use Rattle.tagged.specs.declared.answers.Found.{Found}
+use Rattle.tagged.specs.Answers.{acceptance, Found}
 use Rattle.tagged.proofs.NameLaws.{byte_high}
 use Rattle.tagged.proofs.ListBytes.{field_length}
 use Rattle.netlist.specs.declared.Operand.{Operand}
@@ -124,11 +124,11 @@ cell_after_fits ds earlier c h k value refers inside =
     (member_every FitsOperand operands (λ o m. operand_fits_rules ds earlier o h k
     (operands_pass operand_value_broken operands p.1 m) (operands_pass (operand_missing ds earlier) operands refers m))) inside
 
-pub cells_count : (n : Netlist) → whole_broken Rule.Cells n ≡ Found.Nowhere → length n.cells ≤ 1024
+pub cells_count : (n : Netlist) → whole_broken Rule.Cells n ≡ None → length n.cells ≤ 1024
 unfolding whole_broken
 cells_count n e = go (ltb 1024 (length n.cells)) refl e
   where
-    go : (t : Bool) → ltb 1024 (length n.cells) ≡ t → cond t (Found.At 0) Found.Nowhere ≡ Found.Nowhere → length n.cells ≤ 1024
+    go : (t : Bool) → ltb 1024 (length n.cells) ≡ t → cond {A = Found} t (Some 0) None ≡ None → length n.cells ≤ 1024
     go true p q = absurd (let z : ◌≡◌ {A = ℕ} 0 1 = cc in omega arith)
     go false p q = ltb-false 1024 (length n.cells) p
 
@@ -224,7 +224,7 @@ module _ (base : ℕ) (n : Netlist) (p : RulesPass base n) where
       drive_after_fits ds n.cells r.before d few_declarations few_cells v.passes r.passes)
 
 -- lists that no rule refuses fit their bytes, which are at most 25,219
-pub rules_fit : (base : ℕ) (n : Netlist) → lists_answer base n ≡ Answer.Accepted → FitsBytes n × (length (netlist_bytes n) ≤ 25219)
+pub rules_fit : (base : ℕ) (n : Netlist) → lists_answer base n ≡ acceptance → FitsBytes n × (length (netlist_bytes n) ≤ 25219)
 unfolding netlist_bytes
 rules_fit base n e =
     let p = accepted_rules base n e in
@@ -235,5 +235,5 @@ rules_fit base n e =
     (record { declarations = declarations_fit base n p; cells = cells_fit base n p; drives = drives_fit base n p; short = omega arith }, omega arith)
 
 -- so a netlist that no rule on its lists refuses is one without refusal
-pub lists_accepted : (n : Netlist) → lists_answer 3 n ≡ Answer.Accepted → WithoutRefusal n
+pub lists_accepted : (n : Netlist) → lists_answer 3 n ≡ acceptance → WithoutRefusal n
 lists_accepted n e = let f = rules_fit 3 n e in record { fits = f.0; short = omega (arith, f.1); accepted = e }

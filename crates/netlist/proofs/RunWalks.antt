@@ -1,6 +1,6 @@
--- One turn of the loops that run the cells and the drives of a list, and what is known at their end.
+-- One turn of the loops that run the cells and the drives of a list.
 use mathlib.Core.Path.{◌≡◌}
-use mathlib.Core.List.{List, [], ◌∷◌}
+use mathlib.Core.List.{List, ◌∷◌}
 use Prim.Native.Nat.{ℕ, ◌+◌}
 use lib.ListN.{set}
 use Rattle.netlist.specs.declared.Cell.{Cell}
@@ -14,17 +14,9 @@ pub numbers_turn : {whole : List ℕ} (row values : List ℕ) (k : ℕ) (l : Lis
 unfolding cell_numbers
 numbers_turn row values k l c after m going number e values' f = rw (f, e) (rw m at going)
 
-pub numbers_done : {whole : List ℕ} (row values : List ℕ) (k : ℕ) (l : List Cell) → l ≡ [] → cell_numbers row values k l ≡ whole → values ≡ whole
-unfolding cell_numbers
-numbers_done row values k l none going = rw none at going
-
 -- the next row so far, and what one drive more puts into it
 pub driven_turn : {whole : List ℕ} (row values next : List ℕ) (l : List Drive) (d : Drive) (after : List Drive) → l ≡ d ∷ after →
     driven_numbers row values next l ≡ whole → (drive : Drive) → drive ≡ d → (number : ℕ) → number ≡ read_number row values drive.operand →
     (next' : List ℕ) → next' ≡ set next drive.variable number → driven_numbers row values next' after ≡ whole
 unfolding driven_numbers
 driven_turn row values next l d after m going drive s number e next' f = rw (f, e, s) (rw m at going)
-
-pub driven_done : {whole : List ℕ} (row values next : List ℕ) (l : List Drive) → l ≡ [] → driven_numbers row values next l ≡ whole → next ≡ whole
-unfolding driven_numbers
-driven_done row values next l none going = rw none at going

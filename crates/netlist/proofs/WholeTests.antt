@@ -1,5 +1,6 @@
 -- What the whole netlist breaks is what its test finds: over 1,024 cells; and, where each drive names the next register, fewer drives than registers
 -- exactly where a register has no drive. By the order of the registers' numbers.
+use Rattle.std.specs.Prelude.{Some, None}
 use mathlib.Core.Path.{◌≡◌, refl, ◌∙◌}
 use mathlib.Core.Bool.{Bool, true, false, false≢true}
 use mathlib.Core.List.{List, [], Memᴰ}
@@ -10,7 +11,6 @@ use lib.ListN.{length, get_or}
 use borrow.Author.Tests.{eqb-true, leb-false, ltb-true, ltb-false, not-false}
 use Rattle.tagged.specs.Limits.{most_cells}
 use Rattle.tagged.specs.declared.answers.Rule.{Rule}
-use Rattle.tagged.specs.declared.answers.Found.{Found}
 use Rattle.netlist.specs.declared.Drive.{Drive}
 use Rattle.netlist.specs.Lists.{Netlist}
 use Rattle.netlist.specs.Form.{drive_bytes}
@@ -24,8 +24,8 @@ use Rattle.netlist.proofs.RegisterLaws.{registers_marked, registers_indexed, reg
 
 -- the whole netlist breaks a rule and its test finds it, or neither
 pub data WholeCase (base : ℕ) (n : Netlist) (rule : Rule) : Type 0 where
-  wholly : whole_broken rule n ≡ Found.At 0 → WholeBreaks base n rule → WholeCase base n rule
-  not_at_all : whole_broken rule n ≡ Found.Nowhere → (WholeBreaks base n rule → ⊥) → WholeCase base n rule
+  wholly : whole_broken rule n ≡ Some 0 → WholeBreaks base n rule → WholeCase base n rule
+  not_at_all : whole_broken rule n ≡ None → (WholeBreaks base n rule → ⊥) → WholeCase base n rule
 
 -- the rules that a whole netlist can break
 abbrev is_whole : Rule → Bool
@@ -59,7 +59,7 @@ module _ (base : ℕ) (n : Netlist) where
     pub within : length before < length registers
     pub named : d.variable ≡ get_or registers (length before) 0
 
-  module _ (pass : drive_broken Rule.Reference base n ≡ Found.Nowhere) where
+  module _ (pass : drive_broken Rule.Reference base n ≡ None) where
     names_next : {before : List Drive} {p : ℕ} {d : Drive} → DriveAt base n before p d → NamesNext before d
     unfolding drive_breaks not_next
     names_next {before} {p} {d} s =
@@ -111,7 +111,7 @@ module _ (base : ℕ) (n : Netlist) where
       go true h = wholly (rw h) (many_cells (ltb-true most_cells (length n.cells) h))
       go false h = not_at_all (rw h) (λ w. omega (arith, ltb-false most_cells (length n.cells) h, many_cells_lem w))
 
-  pub whole_case : (rule : Rule) → drive_broken rule base n ≡ Found.Nowhere → WholeCase base n rule
+  pub whole_case : (rule : Rule) → drive_broken rule base n ≡ None → WholeCase base n rule
   unfolding whole_broken
   whole_case Rule.Reference pass = drives_case pass
   whole_case Rule.Cells pass = cells_case

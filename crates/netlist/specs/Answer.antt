@@ -4,7 +4,7 @@ use Rattle.tagged.specs.Limits.{longest_netlist}
 use Rattle.tagged.specs.Files.{file_answer}
 use Rattle.tagged.specs.Refusals.{first_refusal, after_form, after_answer}
 use Rattle.tagged.specs.declared.answers.Rule.{Rule}
-use Rattle.tagged.specs.declared.answers.Answer.{Answer}
+use Rattle.tagged.specs.Answers.{Answer}
 use Rattle.netlist.specs.Lists.{Netlist}
 use Rattle.netlist.specs.Form.{netlist_form}
 use Rattle.netlist.specs.Reading.{netlist_in}

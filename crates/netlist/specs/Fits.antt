@@ -1,12 +1,13 @@
 -- Netlists whose numbers fit their bytes, and netlists without refusal: predicates on lists.
 use Rattle.std.specs.Prelude.{◌≡◌, List, [], ◌∷◌, ℕ, ◌^◌, ◌<◌, ◌≤◌, length}
+use Rattle.tagged.specs.Answers.{acceptance}
 use Rattle.tagged.specs.Limits.{longest_netlist}
 use Rattle.tagged.specs.Declarations.{Declaration, width_of, name_of, initial_of, declaration_payload}
-use Rattle.tagged.specs.declared.answers.Answer.TheVariants as Answer
 use Rattle.netlist.specs.declared.Operand.{Operand}
 use Rattle.netlist.specs.declared.Cell.{Cell}
 use Rattle.netlist.specs.declared.Drive.{Drive}
-use Rattle.netlist.specs.Lists.{Netlist, Slot, operand, byte, operand_width, cell_width, cell_slots}
+use Rattle.netlist.specs.declared.Slot.{Slot}
+use Rattle.netlist.specs.Lists.{Netlist, operand_width, cell_width, cell_slots}
 use Rattle.netlist.specs.Form.{netlist_payload, netlist_bytes}
 use Rattle.netlist.specs.Answer.{lists_answer}
 
@@ -33,8 +34,8 @@ abbrev pub FitsOperand : Operand → Type 0
 FitsOperand o = FitsByte (operand_width o) × FitsFour (operand_number o)
 
 abbrev pub FitsSlot : Slot → Type 0
-FitsSlot (operand o) = FitsOperand o
-FitsSlot (byte k) = FitsByte k
+FitsSlot (Slot.Operand o) = FitsOperand o
+FitsSlot (Slot.Byte k) = FitsByte k
 
 -- a width byte, then the slots
 abbrev pub FitsCell : Cell → Type 0
@@ -65,4 +66,4 @@ pub record WithoutRefusal (n : Netlist) : Type 0 where
   -- its bytes are not too many
   pub short : length (netlist_bytes n) ≤ longest_netlist
   -- no declaration, cell or drive breaks rules 3 to 8 or 12, where the declarations start at place 3
-  pub accepted : lists_answer 3 n ≡ Answer.Accepted
+  pub accepted : lists_answer 3 n ≡ acceptance

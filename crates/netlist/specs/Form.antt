@@ -1,17 +1,20 @@
 -- The netlist's bytes: tag 81, the declarations unchanged, then cells, then drives; and refusal 2, the first fault met in reading them.
-use Rattle.std.specs.Prelude.{cond, List, [], ◌∷◌, ◌++◌, ℕ, ◌+◌, leb, get_or}
+use Rattle.tagged.specs.Answers.{fault_at}
+use Rattle.std.specs.Prelude.{Result, Ok, Err, cond, List, [], ◌∷◌, ◌++◌, ℕ, ◌+◌, leb, get_or}
 use Rattle.tagged.specs.Bytes.{four_bytes}
 use Rattle.tagged.specs.Sorts.{tag_of, on_cell, is_cell, is_sort}
-use Rattle.tagged.specs.Fields.{Judge, Stepper, Body, field_bytes, all_bytes_of, field_by, then_by, fixed_then, ended, many, until_end}
+use Rattle.tagged.specs.Fields.{Judge, Judged, Stepper, Body, field_bytes, all_bytes_of, field_by, then_by, fixed_then, ended, many, until_end, Step}
 use Rattle.tagged.specs.Declarations.{declaration_bytes, declarations_step}
+use Rattle.tagged.specs.Payloads.{over}
+use Rattle.tagged.specs.declared.answers.Fault.{Fault}
+use Rattle.tagged.specs.declared.payload.Payload.{Payload}
 use Rattle.tagged.specs.declared.sorts.CellSort.{CellSort}
 use Rattle.tagged.specs.declared.sorts.Sort.{Sort}
-use Rattle.tagged.specs.declared.fields.Judged.{Judged}
-use Rattle.tagged.specs.declared.fields.Step.{Step}
 use Rattle.netlist.specs.declared.Operand.{Operand}
 use Rattle.netlist.specs.declared.Cell.{Cell}
 use Rattle.netlist.specs.declared.Drive.{Drive}
-use Rattle.netlist.specs.Lists.{Netlist, Slot, operand, byte, cell_sort_of, cell_width, cell_slots}
+use Rattle.netlist.specs.declared.Slot.{Slot}
+use Rattle.netlist.specs.Lists.{Netlist, cell_sort_of, cell_width, cell_slots}
 
 -- how it is written
 
@@ -22,8 +25,8 @@ operand_bytes (Operand.Variable w n) = 1 ∷ w ∷ four_bytes n
 operand_bytes (Operand.Cell w n) = 2 ∷ w ∷ four_bytes n
 
 abbrev pub slot_bytes : Slot → List ℕ
-slot_bytes (operand o) = operand_bytes o
-slot_bytes (byte k) = k ∷ []
+slot_bytes (Slot.Operand o) = operand_bytes o
+slot_bytes (Slot.Byte k) = k ∷ []
 
 -- a cell's payload is its width byte, then its slots
 unfoldable pub cell_bytes : Cell → List ℕ
@@ -58,13 +61,18 @@ shape_of CellSort.ChosenBit = an_operand ∷ an_operand ∷ []
 unfoldable pub slots_by : List Shape → Judge
 slots_by [] = ended
 slots_by (a_byte ∷ l) = fixed_then 1 (slots_by l)
-slots_by (an_operand ∷ l) = λ base owner bytes. cond (leb (get_or bytes 0 0) 2) (fixed_then 6 (slots_by l) base owner bytes) (Judged.Refused owner)
+slots_by (an_operand ∷ l) = λ base owner bytes. cond (leb (get_or bytes 0 0) 2) (fixed_then 6 (slots_by l) base owner bytes) (Err (fault_at owner))
+
+-- what a judge says of what is left, or the fault
+abbrev pub judged_past : Result Payload Fault → Judge → Judged
+judged_past (Ok more) judge = over judge more
+judged_past (Err fault) judge = Err fault
 
 unfoldable pub cell_body : Body
-cell_body at s l = on_cell s (λ c. fixed_then 1 (slots_by (shape_of c)) (at + 3) at l) (Judged.Refused at)
+cell_body at s l = on_cell s (λ c. fixed_then 1 (slots_by (shape_of c)) (at + 3) at l) (Err (fault_at at))
 
 unfoldable pub drive_body : Body
-drive_body at s l = cond (is_sort Sort.Drive s) (fixed_then 1 (slots_by (an_operand ∷ [])) (at + 3) at l) (Judged.Refused at)
+drive_body at s l = cond (is_sort Sort.Drive s) (fixed_then 1 (slots_by (an_operand ∷ [])) (at + 3) at l) (Err (fault_at at))
 
 -- the cells at the front
 unfoldable pub cells_step : Stepper
@@ -76,7 +84,7 @@ drives_judge = until_end (field_by drive_body)
 
 -- declarations, then cells, then drives
 unfoldable pub netlist_body : Body
-netlist_body at s l = cond (is_sort Sort.Netlist s) (then_by declarations_step (then_by cells_step drives_judge) (at + 3) at l) (Judged.Refused at)
+netlist_body at s l = cond (is_sort Sort.Netlist s) (then_by declarations_step (then_by cells_step drives_judge) (at + 3) at l) (Err (fault_at at))
 
 -- the first fault of a file to which refusal 1 does not apply
 unfoldable pub netlist_form : List ℕ → Step

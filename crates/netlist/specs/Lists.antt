@@ -1,9 +1,10 @@
 -- A netlist consists of three lists: declarations, cells, drives. What each cell is made of.
-use Rattle.std.specs.Prelude.{List, [], ◌∷◌, ℕ}
+use Rattle.std.specs.Prelude.{Option, Some, None, List, [], ◌∷◌, ℕ}
 use Rattle.tagged.specs.Declarations.{Declaration}
 use Rattle.tagged.specs.declared.sorts.CellSort.{CellSort}
 use Rattle.netlist.specs.declared.Operand.{Operand}
 use Rattle.netlist.specs.declared.Cell.{Cell}
+use Rattle.netlist.specs.declared.Slot.{Slot}
 use Rattle.netlist.specs.declared.Drive.{Drive}
 
 -- the three lists
@@ -17,11 +18,6 @@ abbrev pub operand_width : Operand → ℕ
 operand_width (Operand.Constant w n) = w
 operand_width (Operand.Variable w n) = w
 operand_width (Operand.Cell w n) = w
-
--- what a cell's payload holds after its width byte: operands and single bytes
-pub data Slot : Type 0 where
-  operand : Operand → Slot
-  byte : ℕ → Slot
 
 abbrev pub cell_sort_of : Cell → CellSort
 cell_sort_of (Cell.One op w a) = CellSort.One op
@@ -42,15 +38,21 @@ cell_width (Cell.ChosenBit w v i) = w
 
 -- its slots, in the order of the file
 abbrev pub cell_slots : Cell → List Slot
-cell_slots (Cell.One op w a) = operand a ∷ []
-cell_slots (Cell.Two op w a b) = operand a ∷ operand b ∷ []
-cell_slots (Cell.Mux w c a b) = operand c ∷ operand a ∷ operand b ∷ []
-cell_slots (Cell.Put w v k b) = operand v ∷ byte k ∷ operand b ∷ []
-cell_slots (Cell.FixedBit w v k) = operand v ∷ byte k ∷ []
-cell_slots (Cell.ChosenBit w v i) = operand v ∷ operand i ∷ []
+cell_slots (Cell.One op w a) = Slot.Operand a ∷ []
+cell_slots (Cell.Two op w a b) = Slot.Operand a ∷ Slot.Operand b ∷ []
+cell_slots (Cell.Mux w c a b) = Slot.Operand c ∷ Slot.Operand a ∷ Slot.Operand b ∷ []
+cell_slots (Cell.Put w v k b) = Slot.Operand v ∷ Slot.Byte k ∷ Slot.Operand b ∷ []
+cell_slots (Cell.FixedBit w v k) = Slot.Operand v ∷ Slot.Byte k ∷ []
+cell_slots (Cell.ChosenBit w v i) = Slot.Operand v ∷ Slot.Operand i ∷ []
 
 -- the operands among some slots
 abbrev pub operands_in : List Slot → List Operand
 operands_in [] = []
-operands_in (operand o ∷ l) = o ∷ operands_in l
-operands_in (byte k ∷ l) = operands_in l
+operands_in (Slot.Operand o ∷ l) = o ∷ operands_in l
+operands_in (Slot.Byte k ∷ l) = operands_in l
+
+-- the slots among some that may be missing
+abbrev pub present : List (Option Slot) → List Slot
+present [] = []
+present (Some s ∷ l) = s ∷ present l
+present (None ∷ l) = present l

@@ -1,14 +1,10 @@
 -- What the code of a run computes, on every input, without stopping; proofs/NumberLaws shows that it is the cycle of an accepted netlist.
-use Rattle.std.specs.Prelude.{◌≡◌, List, [], ◌∷◌, ℕ, ◌+◌, get_or, set}
+use Rattle.std.specs.Prelude.{List, [], ◌∷◌, ℕ, ◌+◌, get_or, set}
 use Rattle.words.specs.Bits.{bit, mux}
 use Rattle.words.specs.Results.{one_result, two_result, put_result}
-use Rattle.tagged.specs.Fields.{unplaced}
-use Rattle.tagged.specs.declared.fields.Step.TheVariants as Step
 use Rattle.netlist.specs.declared.Operand.{Operand}
 use Rattle.netlist.specs.declared.Cell.{Cell}
 use Rattle.netlist.specs.declared.Drive.{Drive}
-use Rattle.netlist.specs.Form.{cells_step}
-use Rattle.netlist.specs.Reading.{cells_at}
 
 -- an operand's number, from the numbers of a row and those of the cells before; 0 where there is none
 unfoldable pub read_number : List ℕ → List ℕ → Operand → ℕ
@@ -29,11 +25,6 @@ cell_number row values (Cell.ChosenBit w v i) = bit (read_number row values v) (
 unfoldable pub cell_numbers : List ℕ → List ℕ → ℕ → List Cell → List ℕ
 cell_numbers row values k [] = values
 cell_numbers row values k (c ∷ cells) = cell_numbers row (set values k (cell_number row values c)) (k + 1) cells
-
--- what running the cells of a list leaves in the values, and where the list ends, if its cells are without a fault
-pub record CellsRan (list row values after : List ℕ) (end : ℕ) : Type 0 where
-  pub numbers : after ≡ cell_numbers row values 0 (unplaced (cells_at 0 list))
-  pub ends : (m : ℕ) → cells_step 0 0 list ≡ Step.Past m → end ≡ m
 
 -- the next row with what these drives put into it, so far as there is room
 unfoldable pub driven_numbers : List ℕ → List ℕ → List ℕ → List Drive → List ℕ

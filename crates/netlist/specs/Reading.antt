@@ -3,15 +3,13 @@ use Rattle.std.specs.Prelude.{cond, List, ℕ, eqb, get_or, drop}
 use Rattle.words.specs.declared.OneOperand.TheVariants as one
 use Rattle.tagged.specs.Bytes.{four_of}
 use Rattle.tagged.specs.Sorts.{on_cell, is_cell, is_sort}
-use Rattle.tagged.specs.Fields.{open_of, on_field, passed_bytes, Placed, read_placed, unplaced}
+use Rattle.tagged.specs.Fields.{passed_bytes, Placed, read_placed, unplaced}
 use Rattle.tagged.specs.Declarations.{after_declarations, declarations_in}
 use Rattle.tagged.specs.declared.sorts.CellSort.{CellSort}
 use Rattle.tagged.specs.declared.sorts.Sort.{Sort}
 use Rattle.netlist.specs.declared.Operand.{Operand}
 use Rattle.netlist.specs.declared.Cell.{Cell}
 use Rattle.netlist.specs.declared.Drive.{Drive}
-use Rattle.netlist.specs.declared.reading.NextCell.{NextCell}
-use Rattle.netlist.specs.declared.reading.NextDrive.{NextDrive}
 use Rattle.netlist.specs.Lists.{Netlist}
 use Rattle.netlist.specs.Form.{cells_step}
 
@@ -41,13 +39,6 @@ drive_in l = record { variable = get_or l 0 0; operand = operand_in (drop 1 l) }
 
 unfoldable pub drive_read : Sort → List ℕ → Drive
 drive_read s l = drive_in l
-
--- the cell at the front, or the end of the list; the same for a drive
-unfoldable pub next_cell_in : List ℕ → NextCell
-next_cell_in l = on_field (open_of 0 0 l) (λ s n. on_cell s (λ c. NextCell.Cell c n) NextCell.Ended) NextCell.Ended
-
-unfoldable pub next_drive_in : List ℕ → NextDrive
-next_drive_in l = on_field (open_of 0 0 l) (λ s n. cond (is_sort Sort.Drive s) (NextDrive.Drive n) NextDrive.Ended) NextDrive.Ended
 
 -- the cells and the drives at the front of a list of bytes, each with its place
 unfoldable pub cells_at : ℕ → List ℕ → List (Placed Cell)

@@ -1,5 +1,5 @@
 -- Refusals 3 to 8 and 12 on a netlist, each a test of a declaration, a cell or a drive, given those before it; the place is the cell or drive.
-use Rattle.std.specs.Prelude.{Bool, false, cond, ◌||◌, not, List, [], ◌∷◌, map, ℕ, ◌+◌, leb, ltb, eqb, length, get_or}
+use Rattle.std.specs.Prelude.{Some, None, Bool, false, cond, ◌||◌, not, List, [], ◌∷◌, map, ℕ, ◌+◌, leb, ltb, eqb, length, get_or}
 use Rattle.words.specs.Widths.{is_width, fits_width, index_within}
 use Rattle.words.specs.Operators.{one_width, two_width}
 use Rattle.tagged.specs.Limits.{most_cells}
@@ -7,7 +7,7 @@ use Rattle.tagged.specs.Fields.{all_bytes_of, placed_by}
 use Rattle.tagged.specs.Refusals.{first_broken, or_else}
 use Rattle.tagged.specs.Declarations.{Declaration, is_register, variable_width, declaration_bytes, declaration_broken}
 use Rattle.tagged.specs.declared.answers.Rule.{Rule}
-use Rattle.tagged.specs.declared.answers.Found.{Found}
+use Rattle.tagged.specs.Answers.{Found}
 use Rattle.netlist.specs.declared.Operand.{Operand}
 use Rattle.netlist.specs.declared.Cell.{Cell}
 use Rattle.netlist.specs.declared.Drive.{Drive}
@@ -105,20 +105,20 @@ drive_breaks Rule.Row ds cells earlier d = false
 
 -- what the whole netlist breaks, at place 0: 6, a register without a drive, looked for after every other break of 6; 12, over 1,024 cells
 unfoldable pub whole_broken : Rule → Netlist → Found
-whole_broken Rule.Reference n = cond (ltb (length n.drives) (length (registers_from 0 n.declarations))) (Found.At 0) Found.Nowhere
-whole_broken Rule.Cells n = cond (ltb most_cells (length n.cells)) (Found.At 0) Found.Nowhere
-whole_broken Rule.FileLength n = Found.Nowhere
-whole_broken Rule.Form n = Found.Nowhere
-whole_broken Rule.Value n = Found.Nowhere
-whole_broken Rule.Name n = Found.Nowhere
-whole_broken Rule.Count n = Found.Nowhere
-whole_broken Rule.Widths n = Found.Nowhere
-whole_broken Rule.BitNumber n = Found.Nowhere
-whole_broken Rule.BothKinds n = Found.Nowhere
-whole_broken Rule.TwoProcesses n = Found.Nowhere
-whole_broken Rule.ReadElsewhere n = Found.Nowhere
-whole_broken Rule.Buffer n = Found.Nowhere
-whole_broken Rule.Row n = Found.Nowhere
+whole_broken Rule.Reference n = cond (ltb (length n.drives) (length (registers_from 0 n.declarations))) (Some 0) None
+whole_broken Rule.Cells n = cond (ltb most_cells (length n.cells)) (Some 0) None
+whole_broken Rule.FileLength n = None
+whole_broken Rule.Form n = None
+whole_broken Rule.Value n = None
+whole_broken Rule.Name n = None
+whole_broken Rule.Count n = None
+whole_broken Rule.Widths n = None
+whole_broken Rule.BitNumber n = None
+whole_broken Rule.BothKinds n = None
+whole_broken Rule.TwoProcesses n = None
+whole_broken Rule.ReadElsewhere n = None
+whole_broken Rule.Buffer n = None
+whole_broken Rule.Row n = None
 
 -- where the cells and the drives of a netlist start, whose declarations start at `base`
 abbrev pub cells_base : ℕ → Netlist → ℕ

@@ -4,7 +4,7 @@ use Rattle.words.specs.Values.{Outcome}
 use Rattle.tagged.specs.Declarations.{width_of}
 use Rattle.tagged.specs.Rows.{row_numbers}
 use Rattle.tagged.specs.Runs.{run_answer_of, row_left}
-use Rattle.tagged.specs.declared.answers.Answer.{Answer}
+use Rattle.tagged.specs.Answers.{Answer}
 use Rattle.netlist.specs.Reading.{netlist_in}
 use Rattle.netlist.specs.Answer.{netlist_answer}
 use Rattle.netlist.specs.Cycle.{netlist_cycle}

@@ -4,14 +4,14 @@ use Rattle.tagged.specs.Fields.{passed_bytes, Placed, placed_by}
 use Rattle.tagged.specs.Refusals.{first_broken, found_if, refused_at, first_refusal, lower_refusal}
 use Rattle.tagged.specs.Declarations.{Declaration, width_of}
 use Rattle.tagged.specs.declared.answers.Rule.{Rule}
-use Rattle.tagged.specs.declared.answers.Answer.{Answer}
+use Rattle.tagged.specs.Answers.{acceptance, Answer}
 use Rattle.netlist.specs.declared.Operand.{Operand}
 use Rattle.netlist.specs.declared.Cell.{Cell}
-use Rattle.netlist.specs.Lists.{Netlist}
+use Rattle.netlist.specs.declared.rules.Known.{Known}
+use Rattle.netlist.specs.Lists.{Netlist, cell_width}
 use Rattle.netlist.specs.Form.{cell_bytes, drive_bytes, cells_step}
 use Rattle.netlist.specs.Reading.{cells_at, drives_at}
-use Rattle.netlist.specs.Rules.{some_operand, operand_value_broken, operand_missing, operand_unlike, cell_breaks, drive_breaks, whole_broken}
-use Rattle.netlist.specs.Rules.{registers_from, cells_base, drives_base}
+use Rattle.netlist.specs.Rules.{some_operand, operand_value_broken, operand_missing, operand_unlike, cell_breaks, drive_breaks, whole_broken, registers_from, cells_base, drives_base}
 use Rattle.netlist.specs.Answer.{netlist_rules}
 
 -- the answer at a place by the tests of rules 3, 6, 7 and 8, the first that holds
@@ -20,7 +20,7 @@ answer_of value reference widths number place =
     refused_at Rule.Value (found_if value place)
     (refused_at Rule.Reference (found_if reference place)
     (refused_at Rule.Widths (found_if widths place)
-    (refused_at Rule.BitNumber (found_if number place) Answer.Accepted)))
+    (refused_at Rule.BitNumber (found_if number place) acceptance)))
 
 -- what some operands at a place are refused for; `cells` are those that they may name
 unfoldable pub operands_answer : List Declaration → List Cell → List Operand → ℕ → Answer
@@ -61,10 +61,11 @@ rest_answer base n ds =
     (lower_refusal (list_answer (λ rule. drive_breaks rule ds n.cells) [] (placed_by drive_bytes (drives_base base n) n.drives))
     (whole_answer (declaring ds n)))
 
--- the lists hold the widths of the variables and the numbers of the registers
-pub record KnownVariables (ds : List Declaration) (variables registers : List ℕ) : Type 0 where
-  pub widths : map width_of ds ≡ variables
-  pub numbers : registers_from 0 ds ≡ registers
+-- the code knows the widths of these variables and cells, and the numbers of the registers
+pub record Knows (ds : List Declaration) (cs : List Cell) (known : Known) : Type 0 where
+  pub variables : map width_of ds ≡ known.variables.now
+  pub registers : registers_from 0 ds ≡ known.registers.now
+  pub cells : map cell_width cs ≡ known.cells.now
 
 -- no file has more cells: it has at most 32,768 bytes, and a cell takes at least 10
 abbrev pub most_listed : ℕ

@@ -14,7 +14,7 @@ use tagged::answers::Reply;
 pub fn skodderym_check(file: &[u8]) -> Reply
     ensures { result ≡ reply_of (module_answer file.now) }
 {
-    verilog_check::check(file).reply()
+    Reply::from(verilog_check::check(file))
 }
 
 // The netlist of a module, into a buffer: refusals 1 to 13.
@@ -22,7 +22,7 @@ pub fn skodderym_translate(file: &[u8], out: &mut [u8]) -> Reply
     ensures { Promise (translation_reply (translate_answer file.now (length out.old)))
         (translate_buffer file.now out.old) result out.new }
 {
-    translator::translate(file, out).reply()
+    Reply::from(translator::translate(file, out))
 }
 
 // One cycle of a module, from a row into another: refusals 1 to 11 and 14.
@@ -30,7 +30,7 @@ pub fn skodderym_run_module(file: &[u8], row: &[u8], next: &mut [u8]) -> Reply
     ensures { Promise (reply_of (module_run.run_answer file.now row.now (length next.old)))
         (module_run.run_leaves file.now row.now next.old) result next.new }
 {
-    verilog_run::run(file, row, next).reply()
+    Reply::from(verilog_run::run(file, row, next))
 }
 
 // One cycle of a netlist, from a row into another: refusals 1 to 8, 12 and 14.
@@ -38,5 +38,5 @@ pub fn skodderym_run_netlist(file: &[u8], row: &[u8], next: &mut [u8]) -> Reply
     ensures { Promise (reply_of (netlist_run.run_answer file.now row.now (length next.old)))
         (netlist_run.run_leaves file.now row.now next.old) result next.new }
 {
-    netlist::run(file, row, next).reply()
+    Reply::from(netlist::run(file, row, next))
 }

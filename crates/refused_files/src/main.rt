@@ -2,13 +2,12 @@
 #![tactic(auto)]
 
 use buffers::read_full;
-use response::put_refusal;
 use std::rt::Files;
 use std::{fs, io};
-use tagged::answers::{Answer, Rule, Translation};
+use tagged::answers::Refusal;
 use tagged::bytes::front;
-use tagged::limits::NetlistFile;
-use translator::LARGEST_NETLIST;
+use tagged::limits::LONGEST_NETLIST;
+use translator::{LARGEST_NETLIST, translate};
 
 // Puts a file into a buffer, which is longer than every file of data/; how many bytes it has.
 fn load(rt: &impl Files, name: &str, buffer: &mut [u8]) -> io::Result<usize> {
@@ -16,75 +15,64 @@ fn load(rt: &impl Files, name: &str, buffer: &mut [u8]) -> io::Result<usize> {
     read_full(&mut file, buffer)
 }
 
-fn write_refusal(rt: &impl Print, name: &str, rule: Rule, place: usize) -> io::Result<()> {
-    let mut text = [0u8; 64];
-    let size = put_refusal(&mut text, rule, place);
-    print!(rt; "{name}: ")?;
-    rt.write_all(front(&text, size))
-}
-
-fn write_answer(rt: &impl Print, name: &str, answer: Answer) -> io::Result<()> {
-    match answer {
-        Answer::Refused(rule, place) => write_refusal(rt, name, rule, place),
-        Answer::Accepted => println!(rt; "{name}: accepted"),
-    }
-}
-
-fn write_translation(rt: &impl Print, name: &str, answer: Translation) -> io::Result<()> {
-    match answer {
-        Translation::Refused(rule, place) => write_refusal(rt, name, rule, place),
-        Translation::Written(_, _) => println!(rt; "{name}: translated"),
+// Hands a file to a call, and writes what it answers: a refusal, or that it was done.
+fn shown<F: FnOnce(&[u8]) -> Result<(), Refusal>>(
+    rt: &(impl Files + Print),
+    name: &str,
+    done: &str,
+    call: F,
+) -> io::Result<()>
+    requires { F.IsAlwaysCallable call }
+{
+    let mut buffer = [0u8; LONGEST_NETLIST + 1];
+    let size = load(rt, name, &mut buffer)?;
+    match call(front(&buffer, size)) {
+        Ok(()) => println!(rt; "{name}: {done}"),
+        Err(refusal) => println!(rt; "{name}: {refusal}"),
     }
 }
 
 // A module is checked.
 fn module(rt: &(impl Files + Print), name: &str) -> io::Result<()> {
-    let mut buffer = [0u8; NetlistFile::MAX + 1];
-    let size = load(rt, name, &mut buffer)?;
-    write_answer(rt, name, verilog_check::check(front(&buffer, size)))
+    shown(rt, name, "accepted", |file| verilog_check::check(file))
 }
 
 // A netlist is read.
 fn netlist(rt: &(impl Files + Print), name: &str) -> io::Result<()> {
-    let mut buffer = [0u8; NetlistFile::MAX + 1];
-    let size = load(rt, name, &mut buffer)?;
-    write_answer(rt, name, netlist::read(front(&buffer, size)))
+    shown(rt, name, "accepted", |file| netlist::read(file))
 }
 
 // A module is translated into a buffer that is never too short.
 fn translated(rt: &(impl Files + Print), name: &str) -> io::Result<()> {
-    let mut buffer = [0u8; NetlistFile::MAX + 1];
-    let size = load(rt, name, &mut buffer)?;
     let mut out = [0u8; LARGEST_NETLIST];
-    write_translation(
+    shown(
         rt,
         name,
-        translator::translate(front(&buffer, size), &mut out),
+        "translated",
+        |file| translate(file, &mut out).map(|_| ()),
     )
 }
 
 // A module is translated into a buffer of no bytes.
 fn without_room(rt: &(impl Files + Print), name: &str) -> io::Result<()> {
-    let mut buffer = [0u8; NetlistFile::MAX + 1];
-    let size = load(rt, name, &mut buffer)?;
     let mut out = [0u8; 0];
-    write_translation(
+    shown(
         rt,
         name,
-        translator::translate(front(&buffer, size), &mut out),
+        "translated",
+        |file| translate(file, &mut out).map(|_| ()),
     )
 }
 
 // A module of one variable is run from a row of three bytes.
 fn from_short_row(rt: &(impl Files + Print), name: &str) -> io::Result<()> {
-    let mut buffer = [0u8; NetlistFile::MAX + 1];
-    let size = load(rt, name, &mut buffer)?;
     let row = [0u8; 3];
     let mut next = [0u8; 4];
-    write_answer(
+    shown(
         rt,
         name,
-        verilog_run::run(front(&buffer, size), &row, &mut next),
+        "accepted",
+        |file| verilog_run::run(file, &row, &mut next),
     )
 }
 

@@ -1,4 +1,6 @@
 -- Input that is longer than every module: its first 16,385 bytes have the answer of the whole, so the program need read no more. By rule 1.
+use Rattle.tagged.specs.Answers.{refused}
+use Rattle.std.specs.Prelude.{Err}
 use mathlib.Core.Path.{◌≡◌, refl, ap}
 use mathlib.Core.Bool.{Bool, true, false, and-false}
 use mathlib.Core.List.{List}
@@ -11,13 +13,12 @@ use borrow.Author.Tests.{leb-true, leb-false, lt-leb}
 use Rattle.tagged.specs.Limits.{longest_module}
 use Rattle.tagged.specs.Files.{file_answer}
 use Rattle.tagged.specs.declared.answers.Rule.TheVariants as Rule
-use Rattle.tagged.specs.declared.answers.Translation.TheVariants as Translation
 use Rattle.verilog.specs.Answer.{module_answer}
 use Rattle.translate.specs.Answer.{translate_answer}
 use Rattle.response.specs.Text.{program_text}
 
 -- a file that is too long is refused 1, and so is what the program writes for it
-too_long_lem : (file : List ℕ) → longest_module < length file → (room : ℕ) → translate_answer file room ≡ Translation.Refused Rule.FileLength 0
+too_long_lem : (file : List ℕ) → longest_module < length file → (room : ℕ) → translate_answer file room ≡ Err (refused Rule.FileLength 0)
 unfolding translate_answer module_answer file_answer
 too_long_lem file h room = rw (lt-leb (length file) longest_module h, and-false (leb 3 (length file)))
 

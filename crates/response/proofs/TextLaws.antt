@@ -1,5 +1,7 @@
 -- Text written to a buffer: the digits of a number, and what the program answers by what translating did. By the laws of writing bytes and the promise of
 -- `translate`.
+use Rattle.tagged.specs.Answers.{written, refused, number_of, Promise, Answer, Translation}
+use Rattle.std.specs.Prelude.{Ok, Err}
 use mathlib.Core.Path.{◌≡◌, refl, sym, ap, ap₂, ◌∙◌, subst}
 use mathlib.Core.Bool.{Bool, true, false, cond}
 use mathlib.Core.List.{List, [], ◌∷◌, ◌++◌}
@@ -9,12 +11,9 @@ use native.Mathlib.Omega.{arith}
 use lib.Dec.{ltb}
 use lib.ListN.{length, drop, length-append}
 use borrow.Author.Tests.{lt-ltb, le-ltb}
-use Rattle.tagged.specs.Answers.{number_of, Promise}
 use Rattle.tagged.specs.Bytes.{Wrote}
 use Rattle.tagged.specs.Limits.{most_cells}
 use Rattle.tagged.specs.declared.answers.Rule.{Rule}
-use Rattle.tagged.specs.declared.answers.Answer.{Answer}
-use Rattle.tagged.specs.declared.answers.Translation.{Translation}
 use Rattle.tagged.proofs.WriteLaws.{wrote_then, wrote_none, wrote_roomy}
 use Rattle.verilog.specs.Answer.{module_answer}
 use Rattle.translate.specs.Answer.{translated_bytes, cell_count, after_check, translate_answer, buffer_after, translate_buffer, largest_netlist}
@@ -64,18 +63,23 @@ refusal_written {o₁ = o₁} {o₂} {i₁ = i₁} {i₂} place e a b c d f =
 
 -- what the program answers
 
+-- how long what was written is
+abbrev length_in : ℕ → Translation → ℕ
+length_in other (Ok w) = w.length
+length_in other (Err e) = other
+
 -- a netlist that was written has its own length
-after_tests : (answer : Answer) (cells size room : ℕ) {written counted : ℕ} → after_check answer cells size room ≡ Translation.Written written counted → written ≡ size
-after_tests (Answer.Refused rule place) cells size room e = absurd (let z : ◌≡◌ {A = ℕ} 0 1 = cc in omega arith)
-after_tests Answer.Accepted cells size room {written} {counted} e = go (ltb most_cells cells) (ltb room size) e
+after_tests : (answer : Answer) (cells size room : ℕ) {long counted : ℕ} → after_check answer cells size room ≡ Ok (written long counted) → long ≡ size
+after_tests (Err r) cells size room e = absurd (let z : ◌≡◌ {A = ℕ} 0 1 = cc in omega arith)
+after_tests (Ok _) cells size room {long} {counted} e = go (ltb most_cells cells) (ltb room size) e
   where
-    go : (many short : Bool) → cond many (Translation.Refused Rule.Cells 0) (cond short (Translation.Refused Rule.Buffer 0) (Translation.Written size cells)) ≡
-        Translation.Written written counted → written ≡ size
+    go : (many short : Bool) → cond many (Err (refused Rule.Cells 0)) (cond short (Err (refused Rule.Buffer 0)) (Ok (written size cells))) ≡
+        Ok (written long counted) → long ≡ size
     go true short p = absurd (let z : ◌≡◌ {A = ℕ} 0 1 = cc in omega arith)
     go false true p = absurd (let z : ◌≡◌ {A = ℕ} 0 1 = cc in omega arith)
-    go false false p = cc
+    go false false p = sym (ap (length_in size) p)
 
-written_size : (file : List ℕ) (room : ℕ) {size cells : ℕ} → translate_answer file room ≡ Translation.Written size cells → size ≡ length (translated_bytes file)
+written_size : (file : List ℕ) (room : ℕ) {size cells : ℕ} → translate_answer file room ≡ Ok (written size cells) → size ≡ length (translated_bytes file)
 unfolding translate_answer
 written_size file room e = after_tests (module_answer file) (cell_count file) (length (translated_bytes file)) room e
 
@@ -95,7 +99,7 @@ module _ (file out : List ℕ) (room : length out ≡ largest_netlist) {answer :
   unfolding translate_buffer
   held_is = translated.leaves ∙ ap (λ (t : Translation). buffer_after t (translated_bytes file) out) (sym translated.answered)
 
-  pub respond_written : (size cells : ℕ) → answer ≡ Translation.Written size cells → Responds file out size held
+  pub respond_written : (size cells : ℕ) → answer ≡ Ok (written size cells) → Responds file out size held
   respond_written size cells e =
       let bytes : List ℕ = translated_bytes file in
       let text : program_text file ≡ bytes = text_is ∙ ap (λ (t : Translation). text_of t bytes) e in
@@ -106,7 +110,7 @@ module _ (file out : List ℕ) (room : length out ≡ largest_netlist) {answer :
             ∙ ap₂ (λ (l : List ℕ) (k : ℕ). l ++ drop k out) (sym text) (long ∙ ap length (sym text));
       }
 
-  pub respond_refused : (rule : Rule) (place : ℕ) → answer ≡ Translation.Refused rule place → {left : List ℕ} {past : ℕ} →
+  pub respond_refused : (rule : Rule) (place : ℕ) → answer ≡ Err (refused rule place) → {left : List ℕ} {past : ℕ} →
       Wrote held 0 (refusal_text (number_of rule) place) left past → Responds file out past left
   respond_refused rule place e {left} {past} w =
       let words : List ℕ = refusal_text (number_of rule) place in

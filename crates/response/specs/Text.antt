@@ -1,7 +1,6 @@
 -- A program reads a module from standard input and writes the netlist, or "refused N at P" in decimal and a newline.
-use Rattle.std.specs.Prelude.{cond, List, [], ◌∷◌, ◌++◌, ℕ, zero, suc, ◌+◌, ◌/◌, ◌%◌, ltb, length, drop}
-use Rattle.tagged.specs.Answers.{number_of}
-use Rattle.tagged.specs.declared.answers.Translation.{Translation}
+use Rattle.std.specs.Prelude.{Ok, Err, cond, List, [], ◌∷◌, ◌++◌, ℕ, zero, suc, ◌+◌, ◌/◌, ◌%◌, ltb, length, drop}
+use Rattle.tagged.specs.Answers.{number_of, Translation}
 use Rattle.translate.specs.Answer.{translated_bytes, translate_answer, largest_netlist}
 
 -- a number in decimal, of at most so many digits: the digits of a tenth of it, then its last one
@@ -26,8 +25,8 @@ refusal_text number place = refused_word ++ (decimal number ++ (at_word ++ (deci
 
 -- what is written for an answer
 abbrev pub text_of : Translation → List ℕ → List ℕ
-text_of (Translation.Written size cells) bytes = bytes
-text_of (Translation.Refused rule place) bytes = refusal_text (number_of rule) place
+text_of (Ok e) bytes = bytes
+text_of (Err e) bytes = refusal_text (number_of e.rule) e.place
 
 -- what the program writes, from what it reads; with room for the largest netlist, refusal 13 is never given
 unfoldable pub program_text : List ℕ → List ℕ

@@ -7,9 +7,8 @@ ghost use Rattle.tagged.specs.Bytes.{Wrote};
 ghost use Rattle.translate.specs.Answer.{largest_netlist};
 ghost use Rattle.response.specs.Text.{decimal_by, refusal_text, program_text, program_buffer};
 
-use netlist::write::put_part;
-use tagged::answers::{Rule, Translation};
-use tagged::bytes::put_byte;
+use tagged::answers::Refusal;
+use tagged::bytes::{put_byte, put_part};
 use translator::translate;
 
 // Writes a number in decimal, of at most so many digits; the index past it.
@@ -21,22 +20,21 @@ fn put_decimal(out: &mut [u8], at: usize, number: u64, digits: usize) -> usize
         return at;
     }
     if number < 10 {
-        return put_byte(out, at, 48 + number as u8);
+        return put_byte(out, at, b'0' + number as u8);
     }
     let past = put_decimal(out, at, number / 10, digits - 1);
-    put_byte(out, past, 48 + (number % 10) as u8)
+    put_byte(out, past, b'0' + (number % 10) as u8)
 }
 
 // Writes the text of a refusal to the front of a buffer; the index past it.
-pub fn put_refusal(out: &mut [u8], rule: Rule, place: usize) -> usize
-    ensures { Wrote out.old 0 (refusal_text (number_of rule) place) out.new result }
+pub fn put_refusal(out: &mut [u8], refusal: Refusal) -> usize
+    ensures { Wrote out.old 0 (refusal_text (number_of refusal.rule) refusal.place) out.new result }
 {
-    let number = rule.number();
     let first = put_part(out, 0, b"refused ");
-    let second = put_decimal(out, first, number as u64, 20);
+    let second = put_decimal(out, first, u64::from(refusal.rule.number()), 20);
     let third = put_part(out, second, b" at ");
-    let fourth = put_decimal(out, third, place as u64, 20);
-    put_byte(out, fourth, 10)
+    let fourth = put_decimal(out, third, refusal.place as u64, 20);
+    put_byte(out, fourth, b'\n')
 }
 
 // Puts what the program writes for a file to the front of a buffer; how many bytes it has.
@@ -45,7 +43,7 @@ pub fn respond(file: &[u8], out: &mut [u8]) -> usize
     ensures { Promise (length (program_text file.now)) (program_buffer file.now out.old) result out.new }
 {
     match translate(file, out) {
-        Translation::Written(size, _) => size,
-        Translation::Refused(rule, place) => put_refusal(out, rule, place),
+        Ok(written) => written.length,
+        Err(refusal) => put_refusal(out, refusal),
     }
 }

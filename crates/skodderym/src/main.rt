@@ -10,7 +10,7 @@ use response::respond;
 use std::io;
 use std::io::{Read, Write};
 use tagged::bytes::front;
-use tagged::limits::ModuleFile;
+use tagged::limits::LONGEST_MODULE;
 use translator::LARGEST_NETLIST;
 
 // Answers the module that the input holds: writes the program's text for all that the input has, however long it is.
@@ -19,7 +19,7 @@ fn answer<R: Read, W: Write>(input: &mut R, output: &mut W) -> io::Result<()>
         Appends (W.contents output.old) (W.contents output.new) (program_text bytes))) }
 {
     // One byte more than the longest module, so that a longer input is seen to be one.
-    let mut file = [0u8; ModuleFile::MAX + 1];
+    let mut file = [0u8; LONGEST_MODULE + 1];
     let count = read_full(input, &mut file)?;
     let mut text = [0u8; LARGEST_NETLIST];
     let size = respond(&file[..count], &mut text);

@@ -1,13 +1,12 @@
 -- The answer that C gets gives back every answer's number and values; and two results of one promise coincide.
+use Rattle.std.specs.Prelude.{Ok, Err}
 use mathlib.Core.Path.{◌≡◌, refl, sym, ◌∙◌}
 use mathlib.Core.List.{List}
 use Prim.Native.Nat.{ℕ}
 use mathlib.Core.Bool.{false}
 use lib.Dec.{eqb}
-use Rattle.tagged.specs.Answers.{number_of, reply_of, translation_reply, rule_of, answer_of, translation_of, Promise}
+use Rattle.tagged.specs.Answers.{number_of, reply_of, translation_reply, rule_of, answer_of, translation_of, Promise, Answer, Translation}
 use Rattle.tagged.specs.declared.answers.Rule.{Rule}
-use Rattle.tagged.specs.declared.answers.Answer.{Answer}
-use Rattle.tagged.specs.declared.answers.Translation.{Translation}
 
 -- a rule is that of its number
 pub rule_back : (r : Rule) → rule_of (number_of r) ≡ r
@@ -48,13 +47,13 @@ number_some Rule.Row = refl
 -- what a reply stands for is the answer that it was made of
 pub answer_back : (a : Answer) → answer_of (reply_of a) ≡ a
 unfolding answer_of reply_of
-answer_back Answer.Accepted = refl
-answer_back (Answer.Refused rule place) = rw (number_some rule, rule_back rule)
+answer_back (Ok _) = refl
+answer_back (Err e) = rw (number_some e.rule, rule_back e.rule)
 
 pub translation_back : (t : Translation) → translation_of (translation_reply t) ≡ t
 unfolding translation_of translation_reply
-translation_back (Translation.Written length cells) = refl
-translation_back (Translation.Refused rule place) = rw (number_some rule, rule_back rule)
+translation_back (Ok e) = refl
+translation_back (Err e) = rw (number_some e.rule, rule_back e.rule)
 
 -- an answer that a contract equates with a definition is the only one that it admits
 pub one_answer_lem : {A : Type 0} {wanted a b : A} → a ≡ wanted → b ≡ wanted → a ≡ b

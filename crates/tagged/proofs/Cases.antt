@@ -1,4 +1,5 @@
 -- Cases on either side of each line of the tagged form: one table, under one theorem, which antt computes. Assumes nothing.
+use Rattle.std.specs.Prelude.{Ok, Err, Some, None}
 use mathlib.Core.Path.{◌≡◌, refl}
 use mathlib.Core.Bool.{true}
 use mathlib.Core.List.{List, [], ◌∷◌, ◌++◌}
@@ -10,37 +11,33 @@ use Rattle.words.proofs.Cases.{Case, case, flag, passes}
 use Rattle.tagged.specs.Limits.{longest_module, longest_netlist}
 use Rattle.tagged.specs.Bytes.{two_bytes, number_of_two, four_bytes, number_of_four, four_of}
 use Rattle.tagged.specs.Sorts.{sort_of, tag_of, declaration_sort, statement_sort, expression_sort, cell_sort}
-use Rattle.tagged.specs.Fields.{open_of, field_by, fixed_then, many_from, read_from}
-use Rattle.tagged.specs.Answers.{number_of}
+use Rattle.tagged.specs.Fields.{open_of, field_by, fixed_then, many_from, read_from, Opened, Step}
+use Rattle.tagged.specs.Answers.{number_of, Answer, Found}
 use Rattle.tagged.specs.Files.{file_answer, outer_answer}
 use Rattle.tagged.specs.Names.{is_name, is_name_byte, all_name_bytes, same_name}
 use Rattle.tagged.specs.Refusals.{first_broken}
 use Rattle.tagged.specs.Declarations.{declaration_body, declarations_step, declaration_read, declarations_at, declarations_in, value_broken, name_taken, name_broken, count_broken, declaration_breaks}
 use Rattle.tagged.specs.Rows.{row_numbers, all_fit, rows_fit, row_answer}
 use Rattle.tagged.specs.declared.answers.Rule.{Rule}
-use Rattle.tagged.specs.declared.answers.Answer.{Answer}
-use Rattle.tagged.specs.declared.answers.Found.{Found}
-use Rattle.tagged.specs.declared.fields.Opened.{Opened}
-use Rattle.tagged.specs.declared.fields.Step.{Step}
 
 -- answers as numbers: a place as it is, all else from 1,000,000 on
 
 abbrev opening : Opened → ℕ
-opening (Opened.Field s n) = 1_000_000 * (tag_of s + 1) + n
-opening (Opened.Refused place) = place
+opening (Ok (s, n)) = 1_000_000 * (tag_of s + 1) + n
+opening (Err fault) = fault.place
 
 abbrev stepping : Step → ℕ
-stepping (Step.Past m) = 1_000_000 + m
-stepping (Step.Refused place) = place
+stepping (Ok m) = 1_000_000 + m
+stepping (Err fault) = fault.place
 
 abbrev finding : Found → ℕ
-finding Found.Nowhere = 1_000_000
-finding (Found.At place) = place
+finding None = 1_000_000
+finding (Some place) = place
 
 -- a refusal as its number in thousands, and its place; for the tables of the crates above too
 abbrev pub answering : Answer → ℕ
-answering Answer.Accepted = 0
-answering (Answer.Refused rule place) = number_of rule * 1000 + place
+answering (Ok _) = 0
+answering (Err e) = number_of e.rule * 1000 + e.place
 
 -- input en (1 bit) and register n (4 bits, 0), of "One case whole"
 abbrev en : List ℕ

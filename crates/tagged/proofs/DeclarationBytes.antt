@@ -1,5 +1,6 @@
 -- Declarations and their bytes give each other back: what is read without a fault is written as it stood, at its places,
 -- wherever they stand, and a list whose numbers fit their bytes is read as it was.
+use Rattle.std.specs.Prelude.{Ok, Err}
 use mathlib.Core.Path.{◌≡◌, refl, sym, ap, ap₂, ◌∙◌, subst}
 use mathlib.Core.Bool.{Bool, true, false}
 use mathlib.Core.List.{List, [], ◌∷◌, ◌++◌}
@@ -8,14 +9,13 @@ use native.Mathlib.Omega.{arith}
 use lib.Dec.{ltb}
 use lib.ListN.{length, take, drop}
 use borrow.Author.Tests.{ltb-true, ltb-false}
+use Rattle.tagged.specs.Answers.{fault_at}
 use Rattle.tagged.specs.Bytes.{AllBytes, four_bytes, four_of}
 use Rattle.tagged.specs.Sorts.{tag_of, is_declaration}
-use Rattle.tagged.specs.Fields.{field_bytes, all_bytes_of, placed_by, field_by, fixed_then, any_bytes, passed_bytes}
+use Rattle.tagged.specs.Fields.{faultless, field_bytes, all_bytes_of, placed_by, field_by, fixed_then, any_bytes, passed_bytes, Judged, Step}
 use Rattle.tagged.specs.Declarations.{Declaration, input, register, declaration_payload, declaration_bytes, fixed_bytes, declaration_body, declarations_step, declaration_in, declaration_read, declarations_at, declarations_in, after_declarations, initial_of}
 use Rattle.tagged.specs.declared.sorts.DeclarationSort.{DeclarationSort}
 use Rattle.tagged.specs.declared.sorts.Sort.{Sort}
-use Rattle.tagged.specs.declared.fields.Judged.{Judged}
-use Rattle.tagged.specs.declared.fields.Step.{Step}
 use Rattle.tagged.proofs.ByteLaws.{bytes_four, four_back}
 use Rattle.tagged.proofs.ListBytes.{Stops, Each, Stands, many_run, list_many, list_read}
 use Rattle.tagged.proofs.RunLaws.{run_listed, many_within}
@@ -44,20 +44,20 @@ payload_back DeclarationSort.Register (w ∷ a ∷ b ∷ c ∷ d ∷ l) h long =
     ap (λ (bs : List ℕ). w ∷ bs ++ l) (bytes_four a b c d (h 1) (h 2) (h 3) (h 4))
 
 -- a payload without a fault has its fixed bytes
-fixed_there : (at : ℕ) (d : DeclarationSort) (l : List ℕ) → declaration_body at (Sort.Declaration d) l ≡ Judged.Fine → fixed_bytes d ≤ length l
+fixed_there : (at : ℕ) (d : DeclarationSort) (l : List ℕ) → declaration_body at (Sort.Declaration d) l ≡ faultless → fixed_bytes d ≤ length l
 fixed_there at d l fine = go (ltb (length l) (fixed_bytes d)) refl
   where
     go : (t : Bool) → ltb (length l) (fixed_bytes d) ≡ t → fixed_bytes d ≤ length l
     go true e = absurd (let short = body_short at d l (ltb-true _ _ e) in let z : ◌≡◌ {A = ℕ} 0 1 = cc in omega arith)
     go false e = ltb-false _ _ e
 
-of_sort : (at : ℕ) (d : DeclarationSort) (l : List ℕ) → AllBytes l → declaration_body at (Sort.Declaration d) l ≡ Judged.Fine → declaration_bytes
+of_sort : (at : ℕ) (d : DeclarationSort) (l : List ℕ) → AllBytes l → declaration_body at (Sort.Declaration d) l ≡ faultless → declaration_bytes
     (declaration_read (Sort.Declaration d) l) ≡ field_bytes (tag_of (Sort.Declaration d)) l
 unfolding declaration_bytes declaration_read
 of_sort at d l h fine =
     ap₂ (λ (t : DeclarationSort) (p : List ℕ). field_bytes (tag_of (Sort.Declaration t)) p) (sort_in d l) (payload_back d l h (fixed_there at d l fine))
 
-back : (at : ℕ) (s : Sort) (l : List ℕ) → AllBytes l → is_declaration s ≡ true → declaration_body at s l ≡ Judged.Fine → declaration_bytes (declaration_read s l) ≡ field_bytes (tag_of s) l
+back : (at : ℕ) (s : Sort) (l : List ℕ) → AllBytes l → is_declaration s ≡ true → declaration_body at s l ≡ faultless → declaration_bytes (declaration_read s l) ≡ field_bytes (tag_of s) l
 back at s l h is fine =
     let f = declaration_sort_lem s is in
     subst (λ (s : Sort). declaration_bytes (declaration_read s l) ≡ field_bytes (tag_of s) l) (sym f.1) (of_sort at f.0 l h (ap (λ (s : Sort). declaration_body at s l) (sym f.1) ∙ fine))
@@ -68,7 +68,7 @@ pub record Declared (base : ℕ) (l : List ℕ) (m : ℕ) : Type 0 where
   pub written : take m l ≡ all_bytes_of declaration_bytes (declarations_in l)
   pub within : m ≤ length l
 
-pub declarations_read : (base owner : ℕ) (l : List ℕ) (m : ℕ) → AllBytes l → declarations_step base owner l ≡ Step.Past m → Declared base l m
+pub declarations_read : (base owner : ℕ) (l : List ℕ) (m : ℕ) → AllBytes l → declarations_step base owner l ≡ Ok m → Declared base l m
 unfolding declarations_step declarations_at
 declarations_read base owner l m h e =
     let run = many_run is_declaration declaration_body (length l) base owner l m (omega arith) e in
@@ -83,21 +83,21 @@ declaration_anywhere a b s l fine = go (is_declaration s) refl
     judge : ℕ → DeclarationSort → Judged
     judge at d = fixed_then (fixed_bytes d) any_bytes (at + 3) at l
 
-    go : (t : Bool) → is_declaration s ≡ t → declaration_body b s l ≡ Judged.Fine
+    go : (t : Bool) → is_declaration s ≡ t → declaration_body b s l ≡ faultless
     go true is =
         let f = declaration_sort_lem s is in
-        let here : judge a f.0 ≡ Judged.Fine = subst (λ (s : Sort). declaration_body a s l ≡ Judged.Fine) f.1 fine in
+        let here : judge a f.0 ≡ faultless = subst (λ (s : Sort). declaration_body a s l ≡ faultless) f.1 fine in
         rw f.1 (fixed_anywhere (fixed_bytes f.0) any_bytes (λ a o b p l e. refl) (a + 3) a (b + 3) b l here)
-    go false off = absurd (let q = other_sort s (judge a) (Judged.Refused a) off in let z : ◌≡◌ {A = ℕ} 0 1 = cc in omega arith)
+    go false off = absurd (let q = other_sort s (judge a) (Err (fault_at a)) off in let z : ◌≡◌ {A = ℕ} 0 1 = cc in omega arith)
 
 -- a step over declarations counts the same bytes anywhere
-pub declarations_anywhere : (base owner : ℕ) (l : List ℕ) (m : ℕ) → declarations_step base owner l ≡ Step.Past m → declarations_step 0 0 l ≡ Step.Past m
+pub declarations_anywhere : (base owner : ℕ) (l : List ℕ) (m : ℕ) → declarations_step base owner l ≡ Ok m → declarations_step 0 0 l ≡ Ok m
 unfolding declarations_step
 declarations_anywhere base owner l m e =
     many_anywhere is_declaration (field_by declaration_body) (field_anywhere declaration_body declaration_anywhere) base owner 0 0 l m e
 
 -- what follows the declarations that were passed
-pub after_declared_lem : (base owner : ℕ) (l : List ℕ) (m : ℕ) → declarations_step base owner l ≡ Step.Past m → after_declarations l ≡ drop m l
+pub after_declared_lem : (base owner : ℕ) (l : List ℕ) (m : ℕ) → declarations_step base owner l ≡ Ok m → after_declarations l ≡ drop m l
 after_declared_lem base owner l m e = ap (λ (s : Step). drop (passed_bytes s) l) (declarations_anywhere base owner l m e)
 
 -- a declaration whose numbers fit their bytes
@@ -136,7 +136,7 @@ writable_stands (register w v name) h = record {
 -- a list of such declarations, in front of bytes that begin none, has no fault and is read as it was, at the places of its bytes
 module _ {l : List Declaration} (base owner : ℕ) (after : List ℕ) (each : Each is_declaration declaration_body declaration_read declaration_bytes l)
     (stops : Stops is_declaration after) where
-  pub declarations_pass : declarations_step base owner (all_bytes_of declaration_bytes l ++ after) ≡ Step.Past (length (all_bytes_of declaration_bytes l))
+  pub declarations_pass : declarations_step base owner (all_bytes_of declaration_bytes l ++ after) ≡ Ok (length (all_bytes_of declaration_bytes l))
   unfolding declarations_step
   declarations_pass = list_many is_declaration declaration_body declaration_read declaration_bytes base owner after each stops
 
@@ -145,6 +145,6 @@ module _ {l : List Declaration} (base owner : ℕ) (after : List ℕ) (each : Ea
   declarations_placed = list_read is_declaration declaration_body declaration_read declaration_bytes base after each stops
 
 -- the declarations that are passed lie within the list
-pub declarations_within : (base owner : ℕ) (l : List ℕ) (r : Step) (m : ℕ) → r ≡ declarations_step base owner l → r ≡ Step.Past m → m ≤ length l
+pub declarations_within : (base owner : ℕ) (l : List ℕ) (r : Step) (m : ℕ) → r ≡ declarations_step base owner l → r ≡ Ok m → m ≤ length l
 unfolding declarations_step
 declarations_within base owner l r m p q = many_within is_declaration declaration_body base owner l r m p q

@@ -1,16 +1,15 @@
 -- Declarations are refused for rules 3 to 5 alone: no declaration breaks a later rule, so to look for more rules after these changes nothing. By cases on the rule.
+use Rattle.std.specs.Prelude.{Ok, Err, None}
 use mathlib.Core.Path.{◌≡◌, refl, ap, ◌∙◌}
 use mathlib.Core.Bool.{true, false}
 use mathlib.Core.List.{List, [], ◌++◌}
 use Prim.Native.Nat.{◌≤◌}
 use native.Mathlib.Omega.{arith}
 use Rattle.tagged.specs.Fields.{Placed}
-use Rattle.tagged.specs.Answers.{number_of}
+use Rattle.tagged.specs.Answers.{acceptance, number_of, Answer}
 use Rattle.tagged.specs.Refusals.{first_broken, first_refusal, after_answer}
 use Rattle.tagged.specs.Declarations.{Declaration, declaration_breaks, declaration_rules}
 use Rattle.tagged.specs.declared.answers.Rule.{Rule}
-use Rattle.tagged.specs.declared.answers.Answer.{Answer}
-use Rattle.tagged.specs.declared.answers.Found.TheVariants as Found
 use Rattle.tagged.proofs.RefusalLaws.{passes_nowhere, in_order, order_rising, rising_above, none_accepted, each_none, refusal_append}
 
 late_passes : (rule : Rule) → 6 ≤ number_of rule → (earlier : List Declaration) (d : Declaration) → declaration_breaks rule earlier d ≡ false
@@ -31,12 +30,12 @@ late_passes Rule.Buffer late earlier d = refl
 late_passes Rule.Row late earlier d = refl
 
 -- a rule from the sixth on has no place among declarations
-pub late_nowhere : (rule : Rule) → 6 ≤ number_of rule → (l : List (Placed Declaration)) → first_broken (declaration_breaks rule) [] l ≡ Found.Nowhere
+pub late_nowhere : (rule : Rule) → 6 ≤ number_of rule → (l : List (Placed Declaration)) → first_broken (declaration_breaks rule) [] l ≡ None
 late_nowhere rule late l = passes_nowhere (declaration_breaks rule) [] l (λ before p d s. late_passes rule late before d)
 
-after_accepted : (a : Answer) → after_answer a Answer.Accepted ≡ a
-after_accepted Answer.Accepted = refl
-after_accepted (Answer.Refused rule place) = refl
+after_accepted : (a : Answer) → after_answer a acceptance ≡ a
+after_accepted (Ok _) = refl
+after_accepted (Err e) = refl
 
 -- so the answer by all rules is that by rules 3 to 5
 pub declared_only : (later : List Rule) → in_order 6 later ≡ true → (l : List (Placed Declaration)) →

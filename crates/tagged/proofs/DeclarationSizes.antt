@@ -1,4 +1,5 @@
 -- Rules 4 and 5 bound declarations: a name has at most 24 bytes, so a declaration at most 32, and there are at most 64. By the rules' own tests.
+use Rattle.std.specs.Prelude.{None}
 use mathlib.Core.Path.{◌≡◌}
 use mathlib.Core.Bool.{true, false, not, ◌&&◌}
 use mathlib.Core.List.{List}
@@ -12,11 +13,9 @@ use Rattle.tagged.specs.Bytes.{four_bytes}
 use Rattle.tagged.specs.Sorts.{tag_of}
 use Rattle.tagged.specs.Names.{is_digit, all_name_bytes, is_name_length, is_name}
 use Rattle.tagged.specs.Fields.{all_bytes_of}
-use Rattle.tagged.specs.Declarations.{Declaration, input, register, name_of, sort_of_declaration, declaration_payload, declaration_bytes}
-use Rattle.tagged.specs.Declarations.{name_taken, name_broken, count_broken, declaration_breaks, declaration_broken}
+use Rattle.tagged.specs.Declarations.{Declaration, input, register, name_of, sort_of_declaration, declaration_payload, declaration_bytes, name_taken, name_broken, count_broken, declaration_breaks, declaration_broken}
 use Rattle.tagged.specs.declared.sorts.Sort.TheVariants as Sort
 use Rattle.tagged.specs.declared.answers.Rule.TheVariants as Rule
-use Rattle.tagged.specs.declared.answers.Found.TheVariants as Found
 use Rattle.tagged.proofs.TestLaws.{both, neither}
 use Rattle.tagged.proofs.ListBytes.{field_length}
 use Rattle.tagged.proofs.AllBytesLaws.{all_length}
@@ -52,11 +51,11 @@ passed_name earlier d e = not-false (is_name (name_of d)) (neither (not (is_name
 
 -- all declarations
 module _ (base : ℕ) (ds : List Declaration) where
-  pub variables_few : declaration_broken Rule.Count base ds ≡ Found.Nowhere → length ds ≤ most_variables
+  pub variables_few : declaration_broken Rule.Count base ds ≡ None → length ds ≤ most_variables
   unfolding declaration_breaks count_broken
   variables_few = nowhere_length (declaration_breaks Rule.Count) declaration_bytes most_variables (λ before d e. leb-false most_variables (length before) e) base ds
 
-  pub declarations_length : declaration_broken Rule.Name base ds ≡ Found.Nowhere → length (all_bytes_of declaration_bytes ds) ≤ length ds * 32
+  pub declarations_length : declaration_broken Rule.Name base ds ≡ None → length (all_bytes_of declaration_bytes ds) ≤ length ds * 32
   declarations_length e =
       all_length declaration_bytes 32 ds
       (λ d m. let p = nowhere_member (declaration_breaks Rule.Name) declaration_bytes base e m in declaration_length d (passed_name p.before d p.passes))

@@ -15,8 +15,7 @@ use Rattle.tagged.specs.Names.{is_digit, is_name_byte, all_name_bytes, is_name_l
 use Rattle.tagged.specs.Declarations.{Declaration, input, register, name_of, value_broken, name_taken, name_broken, count_broken, declaration_breaks}
 use Rattle.tagged.specs.declared.answers.Rule.{Rule}
 use Rattle.tagged.proofs.NameLaws.{same_refl, same_equal}
-use Rattle.tagged.specs.DeclarationPhrases.{NoWidth, zero_wide, too_wide, NoName, no_byte, too_long, other_byte, digit_first}
-use Rattle.tagged.specs.DeclarationPhrases.{DeclarationPhrase, declared_width, initial_value, no_name, earlier_name, many_variables}
+use Rattle.tagged.specs.DeclarationPhrases.{NoWidth, zero_wide, too_wide, NoName, no_byte, too_long, other_byte, digit_first, DeclarationPhrase, declared_width, initial_value, no_name, earlier_name, many_variables}
 use Rattle.tagged.proofs.TestLaws.{or_left, or_right, or_cases, not_first, not_second, not_both, not_so, not_not_so}
 
 -- width 0 or over 32

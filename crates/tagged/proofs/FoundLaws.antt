@@ -1,4 +1,5 @@
 -- The first place that breaks a rule: in two lists joined, and by two tests that agree on each element where it stands. By induction on the list.
+use Rattle.std.specs.Prelude.{Some, None}
 use mathlib.Core.Path.{◌≡◌, refl, ap, ◌∙◌}
 use mathlib.Core.Bool.{Bool, true, false}
 use mathlib.Core.List.{List, [], ◌∷◌, ◌++◌, append_assoc, append-nil}
@@ -7,12 +8,12 @@ use Rattle.tagged.specs.Choice.{choose}
 use Rattle.tagged.specs.Fields.{Placed, unplaced}
 use Rattle.tagged.specs.Stands.{Stands, first, next}
 use Rattle.tagged.specs.Refusals.{first_broken, or_else}
-use Rattle.tagged.specs.declared.answers.Found.{Found}
+use Rattle.tagged.specs.Answers.{Found}
 
 -- a place, or else none
-pub or_nowhere : (f : Found) → or_else f Found.Nowhere ≡ f
-or_nowhere (Found.At place) = refl
-or_nowhere Found.Nowhere = refl
+pub or_nowhere : (f : Found) → or_else f None ≡ f
+or_nowhere (Some place) = refl
+or_nowhere None = refl
 
 -- what two lists hold, without places
 pub unplaced_append : {A : Type 0} (a b : List (Placed A)) → unplaced (a ++ b) ≡ unplaced a ++ unplaced b
@@ -30,8 +31,8 @@ found_append {A} breaks earlier (x ∷ a) b = go (breaks earlier x.what) (found_
     later l = first_broken breaks (earlier ++ (x.what ∷ [])) l
 
     go : (t : Bool) → later (a ++ b) ≡ or_else (later a) (first_broken breaks ((earlier ++ (x.what ∷ [])) ++ unplaced a) b) →
-        choose t (λ _. Found.At x.place) (λ _. later (a ++ b))
-        ≡ or_else (choose t (λ _. Found.At x.place) (λ _. later a)) (first_broken breaks (earlier ++ (x.what ∷ unplaced a)) b)
+        choose t (λ _. Some x.place) (λ _. later (a ++ b))
+        ≡ or_else (choose t (λ _. Some x.place) (λ _. later a)) (first_broken breaks (earlier ++ (x.what ∷ unplaced a)) b)
     go true h = refl
     go false h = h ∙ rw append_assoc
 

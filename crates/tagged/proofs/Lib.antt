@@ -11,7 +11,6 @@ pub mod AllBytesLaws
 pub mod JudgeLaws
 pub mod AnyPlace
 pub mod RunLaws
-pub mod ChoiceLaws
 pub mod TestLaws
 pub mod RefusalLaws
 pub mod FileLaws
@@ -28,10 +27,10 @@ pub mod DeclarationTests
 pub mod DeclarationWalks
 pub mod DeclarationRules
 pub mod FieldLists
+pub mod WalkLaws
 pub mod PartLaws
 pub mod PlacedParts
 pub mod TableLaws
 pub mod RowLaws
-pub mod RunPromises
 pub mod CycleLaws
 pub mod Cases

@@ -1,4 +1,5 @@
 -- Lists of fields and their bytes give each other back: what is read without a fault is written as it stood, and what is written is read as it was.
+use Rattle.std.specs.Prelude.{Ok, Err}
 use mathlib.Core.Path.{◌≡◌, refl, sym, ap, ap₂, ◌∙◌, subst}
 use mathlib.Core.Bool.{Bool, true, false}
 use mathlib.Core.List.{List, [], ◌∷◌, ◌++◌, append_assoc}
@@ -9,10 +10,7 @@ use lib.Seq.{take-add, take_at, drop_at}
 use Rattle.tagged.specs.Bytes.{AllBytes, two_bytes, number_of_two}
 use Rattle.tagged.specs.Sorts.{sort_of, tag_of}
 use Rattle.tagged.specs.declared.sorts.Sort.{Sort}
-use Rattle.tagged.specs.declared.fields.Opened.{Opened}
-use Rattle.tagged.specs.declared.fields.Judged.{Judged}
-use Rattle.tagged.specs.declared.fields.Step.{Step}
-use Rattle.tagged.specs.Fields.{field_bytes, all_bytes_of, open_of, Body, further, field_by, many, read_placed, unplaced, placed_by}
+use Rattle.tagged.specs.Fields.{faultless, Opened, Step, field_bytes, all_bytes_of, open_of, Body, further, field_by, many, read_placed, unplaced, placed_by}
 use Rattle.tagged.proofs.ByteLaws.{bytes_two, bytes_drop, bytes_take, two_back}
 use Rattle.tagged.proofs.SortLaws.{sort_back, tag_back}
 use Rattle.tagged.proofs.FieldLaws.{Whole, open_whole, Passed, field_passed, passed_field}
@@ -63,13 +61,13 @@ pub data Run (wanted : Sort → Bool) (body : Body) : ℕ → List ℕ → ℕ �
   more : {base : ℕ} {l : List ℕ} {m k : ℕ} (p : Passed body base l m) → wanted p.sort ≡ true → Run wanted body (base + m) (drop m l) k → Run wanted body base l (m + k)
 
 module _ (wanted : Sort → Bool) (body : Body) where
-  nothing : (base owner m : ℕ) → many wanted (field_by body) base owner [] ≡ Step.Past m → Run wanted body base [] m
+  nothing : (base owner m : ℕ) → many wanted (field_by body) base owner [] ≡ Ok m → Run wanted body base [] m
   nothing base owner m e =
       let z : 0 ≡ m = cc (many_none wanted (field_by body) base owner [] refl) in
       subst (λ (m : ℕ). Run wanted body base [] m) z (stop (λ s n w. absurd (omega (arith, w.within))))
 
   -- a list that was passed has such fields; `fuel` bounds its length
-  pub many_run : (fuel base owner : ℕ) (l : List ℕ) (m : ℕ) → length l ≤ fuel → many wanted (field_by body) base owner l ≡ Step.Past m → Run wanted body base l m
+  pub many_run : (fuel base owner : ℕ) (l : List ℕ) (m : ℕ) → length l ≤ fuel → many wanted (field_by body) base owner l ≡ Ok m → Run wanted body base l m
   many_run zero base owner [] m h e = nothing base owner m e
   many_run zero base owner (x ∷ l) m h e = absurd (omega arith)
   many_run (suc fuel) base owner [] m h e = nothing base owner m e
@@ -79,18 +77,18 @@ module _ (wanted : Sort → Bool) (body : Body) where
       some e = omega arith
 
       first : (b : Bool) → wanted (sort_of x) ≡ b → (r : Step) → field_by body base owner (x ∷ l) ≡ r
-          → ((b : ℕ) (l' : List ℕ) (k : ℕ) → length l' ≤ fuel → many wanted (field_by body) b owner l' ≡ Step.Past k → Run wanted body b l' k) → Run wanted body base (x ∷ l) m
+          → ((b : ℕ) (l' : List ℕ) (k : ℕ) → length l' ≤ fuel → many wanted (field_by body) b owner l' ≡ Ok k → Run wanted body b l' k) → Run wanted body base (x ∷ l) m
       first false off r p shorter =
           let z : 0 ≡ m = cc (many_stop wanted (field_by body) base owner (x ∷ l) some off) in
           subst (λ (m : ℕ). Run wanted body base (x ∷ l) m) z (stop (λ s n w. ap wanted w.sort ∙ off))
-      first true is (Step.Past j) p shorter =
+      first true is (Ok j) p shorter =
           let f = field_passed body base owner (x ∷ l) j p in
           let whole = many_past wanted (field_by body) base owner (x ∷ l) some is j p (omega (arith, f.bytes)) (omega (arith, f.bytes, f.whole.within)) in
           let after = further_past j (many wanted (field_by body) (base + j) owner (drop j (x ∷ l))) m (sym whole ∙ e) in
           let short : length (drop j (x ∷ l)) ≤ fuel = omega (arith, length-drop j (x ∷ l), f.bytes) in
           subst (λ (m : ℕ). Run wanted body base (x ∷ l) m) after.2
           (more f (ap wanted f.whole.sort ∙ is) (shorter (base + j) (drop j (x ∷ l)) after.0 short after.1))
-      first true is (Step.Refused y) p shorter =
+      first true is (Err y) p shorter =
           absurd (let g = many_refused wanted (field_by body) base owner (x ∷ l) some is y p in let z : ◌≡◌ {A = ℕ} 0 1 = cc in omega arith)
 
 -- what follows begins no field that is wanted
@@ -110,13 +108,13 @@ module _ {A : Type 0} (wanted : Sort → Bool) (body : Body) (read : Sort → Li
   none_read base l off = go (open_of 0 0 l) refl
     where
       go : (o : Opened) → open_of 0 0 l ≡ o → read_placed wanted read base l ≡ []
-      go (Opened.Field s n) p = let w = open_whole 0 0 l p in read_stop wanted read base l w (off s n w)
-      go (Opened.Refused y) p = read_end wanted read base l y p
+      go (Ok (s, n)) p = let w = open_whole 0 0 l p in read_stop wanted read base l w (off s n w)
+      go (Err y) p = read_end wanted read base l y p
 
   module _ (known : (s : Sort) → wanted s ≡ true → tag_of s ≡ 0 → ⊥)
-      (back : (base : ℕ) (s : Sort) (payload : List ℕ) → AllBytes payload → wanted s ≡ true → body base s payload ≡ Judged.Fine → bytes (read s payload) ≡ field_bytes (tag_of s) payload) where
+      (back : (base : ℕ) (s : Sort) (payload : List ℕ) → AllBytes payload → wanted s ≡ true → body base s payload ≡ faultless → bytes (read s payload) ≡ field_bytes (tag_of s) payload) where
     -- the element at the front, as it stood
-    front_written : (base : ℕ) (l : List ℕ) {s : Sort} {n : ℕ} → AllBytes l → Whole l s n → wanted s ≡ true → body base s (take n (drop 3 l)) ≡ Judged.Fine
+    front_written : (base : ℕ) (l : List ℕ) {s : Sort} {n : ℕ} → AllBytes l → Whole l s n → wanted s ≡ true → body base s (take n (drop 3 l)) ≡ faultless
         → bytes (read s (take n (drop 3 l))) ≡ take (n + 3) l
     front_written base l {s} {n} h w is fine =
         let tag : tag_of s ≡ get_or l 0 0 = ap tag_of w.sort ∙ tag_back (get_or l 0 0) (λ e. known s is (ap tag_of w.sort ∙ e)) in
@@ -147,7 +145,7 @@ module _ {A : Type 0} (wanted : Sort → Bool) (body : Body) (read : Sort → Li
     pub field : bytes a ≡ field_bytes (tag_of sort) payload
     pub short : length payload < 65536
     pub is : wanted sort ≡ true
-    pub fine : (base : ℕ) → body base sort payload ≡ Judged.Fine
+    pub fine : (base : ℕ) → body base sort payload ≡ faultless
     pub back : read sort payload ≡ a
 
   pub data Each : List A → Type 0 where
@@ -169,7 +167,7 @@ module _ {A : Type 0} (wanted : Sort → Bool) (body : Body) (read : Sort → Li
     stands_length : length (bytes a) ≡ length x.payload + 3
     stands_length = rw x.field (field_length (tag_of x.sort) x.payload)
 
-  pub list_many : {l : List A} (base owner : ℕ) (after : List ℕ) → Each l → Stops wanted after → many wanted (field_by body) base owner (all_bytes_of bytes l ++ after) ≡ Step.Past
+  pub list_many : {l : List A} (base owner : ℕ) (after : List ℕ) → Each l → Stops wanted after → many wanted (field_by body) base owner (all_bytes_of bytes l ++ after) ≡ Ok
       (length (all_bytes_of bytes l))
   unfolding all_bytes_of Stops
   list_many base owner [] none stops = many_none wanted (field_by body) base owner [] refl
@@ -178,12 +176,12 @@ module _ {A : Type 0} (wanted : Sort → Bool) (body : Body) (read : Sort → Li
       let all = all_bytes_of bytes l ++ after in
       let m = length x.payload + 3 in
       let whole = stands_whole x all in
-      let p : field_by body base owner (bytes a ++ all) ≡ Step.Past m = passed_field body base owner (bytes a ++ all) m (record { sort = x.sort; size = length x.payload; whole = whole; fine = rw (stands_payload x all) (x.fine base); bytes = refl }) in
+      let p : field_by body base owner (bytes a ++ all) ≡ Ok m = passed_field body base owner (bytes a ++ all) m (record { sort = x.sort; size = length x.payload; whole = whole; fine = rw (stands_payload x all) (x.fine base); bytes = refl }) in
       let long : length (bytes a ++ all) ≡ length (bytes a) + length all = length-append (bytes a) all in
       let is : wanted (sort_of (get_or (bytes a ++ all) 0 0)) ≡ true = ap wanted (sym whole.sort) ∙ x.is in
       let turn = many_past wanted (field_by body) base owner (bytes a ++ all) (λ e. omega (arith, whole.within)) is m p (omega arith) whole.within in
       rw append_assoc (turn ∙ ap (λ (r : List ℕ). further m (many wanted (field_by body) (base + m) owner r)) (stands_after x all)
-      ∙ ap (further m) (list_many (base + m) owner after each stops) ∙ ap Step.Past (omega (arith, length-append (bytes a) (all_bytes_of bytes l), stands_length x all)))
+      ∙ ap (further m) (list_many (base + m) owner after each stops) ∙ ap Ok (omega (arith, length-append (bytes a) (all_bytes_of bytes l), stands_length x all)))
 
   pub list_read : {l : List A} (base : ℕ) (after : List ℕ) → Each l → Stops wanted after → read_placed wanted read base (all_bytes_of bytes l ++ after) ≡ placed_by bytes base l
   unfolding all_bytes_of placed_by Stops

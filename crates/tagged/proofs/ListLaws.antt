@@ -1,4 +1,5 @@
 -- Laws of lists of fields: one turn of a walk over them, and that lists and their bytes give each other back, both ways.
+use Rattle.std.specs.Prelude.{Ok, Err}
 use mathlib.Core.Path.{◌≡◌, refl, sym, ap, ◌∙◌}
 use mathlib.Core.Bool.{Bool, true, false}
 use mathlib.Core.List.{List, [], ◌∷◌}
@@ -8,27 +9,26 @@ use native.Mathlib.Numerals.{sub-one, one-add}
 use native.Mathlib.Omega.{arith}
 use lib.ListN.{length, get_or, take, drop, length-drop}
 use lib.Seq.{drop-drop}
+use Rattle.tagged.specs.declared.answers.Fault.{Fault}
 use Rattle.tagged.specs.Choice.{choose}
 use Rattle.tagged.specs.Sorts.{sort_of}
 use Rattle.tagged.specs.declared.sorts.Sort.{Sort}
-use Rattle.tagged.specs.declared.fields.Opened.{Opened}
-use Rattle.tagged.specs.declared.fields.Step.{Step}
-use Rattle.tagged.specs.Fields.{open_of, Stepper, further, many_from, many, Placed, on_field, read_from, read_placed, unplaced}
+use Rattle.tagged.specs.Fields.{Opened, Step, open_of, Stepper, further, many_from, many, Placed, on_field, read_from, read_placed, unplaced}
 use Rattle.tagged.proofs.ByteLaws.{rest}
 use Rattle.tagged.proofs.FieldLaws.{Whole, whole_open}
 
 -- steps add up
 pub further_zero : (s : Step) → further 0 s ≡ s
-further_zero (Step.Past m) = rw zero-add
-further_zero (Step.Refused x) = refl
+further_zero (Ok m) = rw zero-add
+further_zero (Err x) = refl
 
 pub further-further : (a b : ℕ) (s : Step) → further a (further b s) ≡ further (a + b) s
-further-further a b (Step.Past m) = rw add_assoc
-further-further a b (Step.Refused x) = refl
+further-further a b (Ok m) = rw add_assoc
+further-further a b (Err x) = refl
 
-pub further_past : (a : ℕ) (s : Step) (m : ℕ) → further a s ≡ Step.Past m → (k : ℕ) × (s ≡ Step.Past k) × (a + k ≡ m)
-further_past a (Step.Past k) m e = (k, refl, cc)
-further_past a (Step.Refused x) m e = absurd (let z : ◌≡◌ {A = ℕ} 0 1 = cc in omega arith)
+pub further_past : (a : ℕ) (s : Step) (m : ℕ) → further a s ≡ Ok m → (k : ℕ) × (s ≡ Ok k) × (a + k ≡ m)
+further_past a (Ok k) m e = (k, refl, cc)
+further_past a (Err x) m e = absurd (let z : ◌≡◌ {A = ℕ} 0 1 = cc in omega arith)
 
 -- what a list of fields is, by what stands at its front
 module _ (wanted : Sort → Bool) (one : Stepper) where
@@ -43,24 +43,24 @@ module _ (wanted : Sort → Bool) (one : Stepper) where
       let h' : n ≤ length l = omega arith in
       ap (further 1) (many_skip n (base + 1) owner l h') ∙ rw (further-further, one-add, next)
 
-  pub many_none : (base owner : ℕ) (l : List ℕ) → length l ≡ 0 → many wanted one base owner l ≡ Step.Past 0
+  pub many_none : (base owner : ℕ) (l : List ℕ) → length l ≡ 0 → many wanted one base owner l ≡ Ok 0
   unfolding many_from
   many_none base owner [] h = refl
   many_none base owner (x ∷ l) h = absurd (omega arith)
 
-  pub many_stop : (base owner : ℕ) (l : List ℕ) → (length l ≡ 0 → ⊥) → wanted (sort_of (get_or l 0 0)) ≡ false → many wanted one base owner l ≡ Step.Past 0
+  pub many_stop : (base owner : ℕ) (l : List ℕ) → (length l ≡ 0 → ⊥) → wanted (sort_of (get_or l 0 0)) ≡ false → many wanted one base owner l ≡ Ok 0
   unfolding many_from
   many_stop base owner [] some h = absurd (some refl)
   many_stop base owner (x ∷ l) some h = rw h
 
   pub many_refused : (base owner : ℕ) (l : List ℕ) → (length l ≡ 0 → ⊥) → wanted (sort_of (get_or l 0 0)) ≡ true →
-      (x : ℕ) → one base owner l ≡ Step.Refused x → many wanted one base owner l ≡ Step.Refused x
+      (x : Fault) → one base owner l ≡ Err x → many wanted one base owner l ≡ Err x
   unfolding many_from
   many_refused base owner [] some h y e = absurd (some refl)
   many_refused base owner (x ∷ l) some h y e = rw (h, e)
 
   pub many_past : (base owner : ℕ) (l : List ℕ) → (length l ≡ 0 → ⊥) → wanted (sort_of (get_or l 0 0)) ≡ true →
-      (m : ℕ) → one base owner l ≡ Step.Past m → 1 ≤ m → m ≤ length l → many wanted one base owner l ≡ further m (many wanted one (base + m) owner (drop m l))
+      (m : ℕ) → one base owner l ≡ Ok m → 1 ≤ m → m ≤ length l → many wanted one base owner l ≡ further m (many wanted one (base + m) owner (drop m l))
   unfolding many_from
   many_past base owner [] some h m e low high = absurd (some refl)
   many_past base owner (x ∷ l) some h zero e low high = absurd (omega arith)
@@ -71,7 +71,7 @@ module _ (wanted : Sort → Bool) (one : Stepper) where
 
   -- one turn of a loop that has come to the index `at` of the list
   module _ (base owner : ℕ) (l : List ℕ) (at : ℕ) (going : many wanted one base owner l ≡ further at (many wanted one (base + at) owner (drop at l))) where
-    pub turn_done : length l ≤ at → Step.Past at ≡ many wanted one base owner l
+    pub turn_done : length l ≤ at → Ok at ≡ many wanted one base owner l
     turn_done h =
         let none : length (drop at l) ≡ 0 = rw length-drop (omega arith) in
         rw (going, many_none (base + at) owner (drop at l) none, add-zero)
@@ -80,17 +80,17 @@ module _ (wanted : Sort → Bool) (one : Stepper) where
       some : length (drop at l) ≡ 0 → ⊥
       some = rw length-drop (λ e. omega arith)
 
-      pub turn_stop : wanted (sort_of (get_or (drop at l) 0 0)) ≡ false → Step.Past at ≡ many wanted one base owner l
+      pub turn_stop : wanted (sort_of (get_or (drop at l) 0 0)) ≡ false → Ok at ≡ many wanted one base owner l
       turn_stop w = rw (going, many_stop (base + at) owner (drop at l) some w, add-zero)
 
       module _ (w : wanted (sort_of (get_or (drop at l) 0 0)) ≡ true) (s : Step) (so : s ≡ one (base + at) owner (take (length l - at) (drop at l))) where
         here : one (base + at) owner (drop at l) ≡ s
         here = sym (rw rest at so)
 
-        pub turn_refused : (x : ℕ) → s ≡ Step.Refused x → Step.Refused x ≡ many wanted one base owner l
+        pub turn_refused : (x : Fault) → s ≡ Err x → Err x ≡ many wanted one base owner l
         turn_refused x e = rw (going, many_refused (base + at) owner (drop at l) some w x (here ∙ e))
 
-        pub turn_past : (m : ℕ) → s ≡ Step.Past m → (3 ≤ m) × (m ≤ length (take (length l - at) (drop at l))) →
+        pub turn_past : (m : ℕ) → s ≡ Ok m → (3 ≤ m) × (m ≤ length (take (length l - at) (drop at l))) →
             many wanted one base owner l ≡ further (at + m) (many wanted one (base + (at + m)) owner (drop (at + m) l))
         turn_past m e b =
             let b' : m ≤ length (drop at l) = rw rest at b.1 in
@@ -108,7 +108,7 @@ module _ {A : Type 0} (wanted : Sort → Bool) (read : Sort → List ℕ → A) 
       let next : base + 1 + n ≡ base + suc n = omega arith in
       read_skip n (base + 1) l ∙ rw next
 
-  pub read_end : (base : ℕ) (l : List ℕ) (x : ℕ) → open_of 0 0 l ≡ Opened.Refused x → read_placed wanted read base l ≡ []
+  pub read_end : (base : ℕ) (l : List ℕ) (x : Fault) → open_of 0 0 l ≡ Err x → read_placed wanted read base l ≡ []
   unfolding read_from
   read_end base [] x e = refl
   read_end base (y ∷ l) x e = rw e
@@ -144,5 +144,5 @@ module _ {A : Type 0} (wanted : Sort → Bool) (read : Sort → List ℕ → A) 
 
       go : (o : Opened) → ((n : ℕ) → unplaced (read_from wanted read n (a + 1) l) ≡ unplaced (read_from wanted read n (b + 1) l)) →
           unplaced (on_field o (λ s n. here a (wanted s) s n) []) ≡ unplaced (on_field o (λ s n. here b (wanted s) s n) [])
-      go (Opened.Field s n) later = side (wanted s) s n (later (n + 2))
-      go (Opened.Refused y) later = refl
+      go (Ok (s, n)) later = side (wanted s) s n (later (n + 2))
+      go (Err y) later = refl

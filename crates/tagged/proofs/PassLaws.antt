@@ -1,5 +1,6 @@
 -- Lists whose elements pass a test, each after those before it, joined and split: such a list has no place that breaks the rule, and the other way round.
 -- What no place says of each element, and of how many there are. By induction on the list, and by where the elements stand (RefusalLaws, PlaceLaws).
+use Rattle.std.specs.Prelude.{None}
 use mathlib.Core.Path.{◌≡◌, refl}
 use mathlib.Core.Bool.{Bool, true, false}
 use mathlib.Core.List.{List, [], ◌∷◌, ◌++◌, append-nil, append_assoc, Memᴰ}
@@ -10,7 +11,6 @@ use lib.ListN.{length}
 use borrow.Author.Tests.{ltb-true, ltb-false}
 use Rattle.tagged.specs.Fields.{placed_by}
 use Rattle.tagged.specs.Refusals.{first_broken}
-use Rattle.tagged.specs.declared.answers.Found.{Found}
 use Rattle.tagged.proofs.RefusalLaws.{nowhere_passes}
 use Rattle.tagged.proofs.PlaceLaws.{member_stands, index_stands}
 
@@ -30,7 +30,7 @@ module _ {A : Type 0} {Pass : List A → A → Type 0} where
 module _ {A : Type 0} (breaks : List A → A → Bool) (bytes : A → List ℕ) where
   -- none breaks the rule, so it has no place
   pub each_nowhere : {Pass : List A → A → Type 0} → ((earlier : List A) (a : A) → Pass earlier a → breaks earlier a ≡ false) →
-      {earlier l : List A} (base : ℕ) → EachAfter Pass earlier l → first_broken breaks earlier (placed_by bytes base l) ≡ Found.Nowhere
+      {earlier l : List A} (base : ℕ) → EachAfter Pass earlier l → first_broken breaks earlier (placed_by bytes base l) ≡ None
   unfolding first_broken placed_by
   each_nowhere passes base none_after = refl
   each_nowhere passes {earlier} base (more_after {a = a} p r) = rw (passes earlier a p) (each_nowhere passes (base + length (bytes a)) r)
@@ -41,14 +41,14 @@ module _ {A : Type 0} (breaks : List A → A → Bool) (bytes : A → List ℕ) 
     pub fewer : length before < length l
     pub passes : breaks before a ≡ false
 
-  pub nowhere_member : (base : ℕ) {l : List A} → first_broken breaks [] (placed_by bytes base l) ≡ Found.Nowhere → {a : A} → Memᴰ a l → PassesAfter l a
+  pub nowhere_member : (base : ℕ) {l : List A} → first_broken breaks [] (placed_by bytes base l) ≡ None → {a : A} → Memᴰ a l → PassesAfter l a
   nowhere_member base e m =
       let s = member_stands bytes base m in
       record { before = s.before; fewer = s.within; passes = nowhere_passes breaks [] s.stands e }
 
   -- a rule that only an element with fewer than `most` before it passes bounds the list
   pub nowhere_length : (most : ℕ) → ((before : List A) (a : A) → breaks before a ≡ false → length before < most) → (base : ℕ) (l : List A) →
-      first_broken breaks [] (placed_by bytes base l) ≡ Found.Nowhere → length l ≤ most
+      first_broken breaks [] (placed_by bytes base l) ≡ None → length l ≤ most
   nowhere_length most has base l e = go (ltb most (length l)) refl
     where
       go : (t : Bool) → ltb most (length l) ≡ t → length l ≤ most

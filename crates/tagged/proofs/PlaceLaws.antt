@@ -1,5 +1,6 @@
 -- In a list with the places that its bytes have, places rise: the first place that breaks a rule is the least; and each element stands somewhere.
 -- By induction on the list.
+use Rattle.std.specs.Prelude.{Some, None}
 use mathlib.Core.Path.{◌≡◌, refl, sym, ap, ◌∙◌}
 use mathlib.Core.Bool.{Bool, true, false, true≢false}
 use mathlib.Core.List.{List, [], ◌∷◌, Memᴰ}
@@ -10,7 +11,7 @@ use lib.ListN.{length, length-append}
 use borrow.Author.Tests.{ltb-true, ltb-false}
 use Rattle.tagged.specs.Fields.{Placed, placed_by, all_bytes_of}
 use Rattle.tagged.specs.Refusals.{first_broken}
-use Rattle.tagged.specs.declared.answers.Found.{Found}
+use Rattle.tagged.specs.Answers.{Found}
 use Rattle.tagged.specs.Stands.{Stands, first, next}
 use Rattle.tagged.proofs.RefusalLaws.{nowhere_passes, passes_nowhere, FirstBreak, at_first}
 
@@ -20,10 +21,10 @@ pub data BrokenAt {A : Type 0} (breaks : List A → A → Bool) (l : List (Place
 
 module _ {A : Type 0} (breaks : List A → A → Bool) (l : List (Placed A)) where
   -- nowhere: none is broken
-  pub nowhere_none : first_broken breaks [] l ≡ Found.Nowhere → (p : ℕ) → BrokenAt breaks l p → ⊥
+  pub nowhere_none : first_broken breaks [] l ≡ None → (p : ℕ) → BrokenAt breaks l p → ⊥
   nowhere_none e p (broken_at s b) = true≢false (sym b ∙ nowhere_passes breaks [] s e)
 
-  pub none_nowhere : ((p : ℕ) → BrokenAt breaks l p → ⊥) → first_broken breaks [] l ≡ Found.Nowhere
+  pub none_nowhere : ((p : ℕ) → BrokenAt breaks l p → ⊥) → first_broken breaks [] l ≡ None
   none_nowhere n = passes_nowhere breaks [] l (λ before p x s. go before p x s (breaks before x) refl)
     where
       go : (before : List A) (p : ℕ) (x : A) → Stands l before p x → (t : Bool) → breaks before x ≡ t → breaks before x ≡ false
@@ -61,10 +62,10 @@ module _ {A : Type 0} (bytes : A → List ℕ) (some : (a : A) → 0 < length (b
     broken_below (broken_at s b) = place_below base l s
 
     -- a place: the least of those that are broken
-    pub at_broken : (p : ℕ) → first_broken breaks [] (placed_by bytes base l) ≡ Found.At p → BrokenAt breaks (placed_by bytes base l) p
+    pub at_broken : (p : ℕ) → first_broken breaks [] (placed_by bytes base l) ≡ Some p → BrokenAt breaks (placed_by bytes base l) p
     at_broken p e = let f = at_first breaks [] (placed_by bytes base l) p e in broken_at f.stands f.broken
 
-    pub at_least : (p : ℕ) → first_broken breaks [] (placed_by bytes base l) ≡ Found.At p → (q : ℕ) → BrokenAt breaks (placed_by bytes base l) q → p ≤ q
+    pub at_least : (p : ℕ) → first_broken breaks [] (placed_by bytes base l) ≡ Some p → (q : ℕ) → BrokenAt breaks (placed_by bytes base l) q → p ≤ q
     at_least p e q (broken_at {before} {x} s b) = go (ltb (length before) (length f.before)) refl
       where
         f : FirstBreak breaks [] (placed_by bytes base l) p
@@ -75,12 +76,12 @@ module _ {A : Type 0} (bytes : A → List ℕ) (some : (a : A) → 0 < length (b
         go false h = places_rise base l f.stands s (ltb-false (length before) _ h)
 
     pub least_at : (p : ℕ) → BrokenAt breaks (placed_by bytes base l) p → ((q : ℕ) → BrokenAt breaks (placed_by bytes base l) q → p ≤ q) →
-        first_broken breaks [] (placed_by bytes base l) ≡ Found.At p
+        first_broken breaks [] (placed_by bytes base l) ≡ Some p
     least_at p b least = go (first_broken breaks [] (placed_by bytes base l)) refl
       where
-        go : (f : Found) → first_broken breaks [] (placed_by bytes base l) ≡ f → f ≡ Found.At p
-        go (Found.At r) e = let same : r ≡ p = omega (arith, at_least r e p b, least r (at_broken r e)) in rw same
-        go Found.Nowhere e = absurd (nowhere_none breaks (placed_by bytes base l) e p b)
+        go : (f : Found) → first_broken breaks [] (placed_by bytes base l) ≡ f → f ≡ Some p
+        go (Some r) e = let same : r ≡ p = omega (arith, at_least r e p b, least r (at_broken r e)) in rw same
+        go None e = absurd (nowhere_none breaks (placed_by bytes base l) e p b)
 
 -- each element of a list stands somewhere, and at each index one
 module _ {A : Type 0} (bytes : A → List ℕ) where

@@ -1,4 +1,6 @@
 -- What the first place that breaks a rule, and the first rule that has a place, say of the elements and of the rules. By induction on the list.
+use Rattle.tagged.specs.Answers.{acceptance, refused, number_of, Answer, Found}
+use Rattle.std.specs.Prelude.{Ok, Err, Some, None}
 use mathlib.Core.Path.{◌≡◌, refl, sym, ap}
 use mathlib.Core.Bool.{Bool, true, false, ◌&&◌, and-eq-true_iff}
 use mathlib.Core.List.{List, [], ◌∷◌, ◌++◌, append_assoc, append-nil, Memᴰ}
@@ -10,61 +12,73 @@ use borrow.Author.Tests.{leb-true}
 use Rattle.tagged.specs.Choice.{choose}
 use Rattle.tagged.specs.Fields.{Placed}
 use Rattle.tagged.specs.Refusals.{first_broken, or_else, refused_at, first_refusal, after_answer}
-use Rattle.tagged.specs.Answers.{number_of}
 use Rattle.tagged.specs.declared.answers.Rule.{Rule}
-use Rattle.tagged.specs.declared.answers.Answer.{Answer}
-use Rattle.tagged.specs.declared.answers.Found.{Found}
 use Rattle.tagged.specs.Stands.{Stands, first, next}
 
 -- a place is not nowhere, and a refusal is not acceptance
-pub at_not_nowhere : {B : Type 0} {p : ℕ} → Found.At p ≡ Found.Nowhere → B
+pub at_not_nowhere : {B : Type 0} {p : ℕ} → Some p ≡ None → B
 at_not_nowhere e = absurd (let z : ◌≡◌ {A = ℕ} 0 1 = cc in omega arith)
 
-pub refused_not_accepted : {B : Type 0} {k : Rule} {p : ℕ} → Answer.Refused k p ≡ Answer.Accepted → B
+pub refused_not_accepted : {B : Type 0} {k : Rule} {p : ℕ} → Err (refused k p) ≡ acceptance → B
 refused_not_accepted e = absurd (let z : ◌≡◌ {A = ℕ} 0 1 = cc in omega arith)
 
+-- one refusal has one rule and one place
+abbrev rule_in : Rule → Answer → Rule
+rule_in other (Ok _) = other
+rule_in other (Err e) = e.rule
+
+abbrev place_in : Answer → ℕ
+place_in (Ok _) = 0
+place_in (Err e) = e.place
+
+pub one_rule : {k r : Rule} {p q : ℕ} → ◌≡◌ {A = Answer} (Err (refused k p)) (Err (refused r q)) → k ≡ r
+one_rule {k} e = ap (rule_in k) e
+
+pub one_place : {k r : Rule} {p q : ℕ} → ◌≡◌ {A = Answer} (Err (refused k p)) (Err (refused r q)) → p ≡ q
+one_place e = ap place_in e
+
 -- the first place or else the second: nowhere if both are, and a place from the first or, that being nowhere, from the second
-pub nowhere_both : (a b : Found) → or_else a b ≡ Found.Nowhere → (a ≡ Found.Nowhere) × (b ≡ Found.Nowhere)
-nowhere_both (Found.At p) b e = at_not_nowhere e
-nowhere_both Found.Nowhere b e = (refl, e)
+pub nowhere_both : (a b : Found) → or_else a b ≡ None → (a ≡ None) × (b ≡ None)
+nowhere_both (Some p) b e = at_not_nowhere e
+nowhere_both None b e = (refl, e)
 
 pub data OneOf (a b : Found) (p : ℕ) : Type 0 where
-  one : a ≡ Found.At p → OneOf a b p
-  other : a ≡ Found.Nowhere → b ≡ Found.At p → OneOf a b p
+  one : a ≡ Some p → OneOf a b p
+  other : a ≡ None → b ≡ Some p → OneOf a b p
 
-pub at_one : (a b : Found) {p : ℕ} → or_else a b ≡ Found.At p → OneOf a b p
-at_one (Found.At q) b e = one e
-at_one Found.Nowhere b e = other refl e
+pub at_one : (a b : Found) {p : ℕ} → or_else a b ≡ Some p → OneOf a b p
+at_one (Some q) b e = one e
+at_one None b e = other refl e
 
-pub one_at : {a b : Found} {p : ℕ} → OneOf a b p → or_else a b ≡ Found.At p
+pub one_at : {a b : Found} {p : ℕ} → OneOf a b p → or_else a b ≡ Some p
 one_at (one e) = rw e
 one_at (other e f) = rw (e, f)
 
 -- the elements
 module _ {A : Type 0} (breaks : List A → A → Bool) where
   -- by what stands at the front
-  pub front_passes : (earlier : List A) (x : Placed A) (l : List (Placed A)) → first_broken breaks earlier (x ∷ l) ≡ Found.Nowhere →
-      (breaks earlier x.what ≡ false) × (first_broken breaks (earlier ++ (x.what ∷ [])) l ≡ Found.Nowhere)
+  pub front_passes : (earlier : List A) (x : Placed A) (l : List (Placed A)) → first_broken breaks earlier (x ∷ l) ≡ None →
+      (breaks earlier x.what ≡ false) × (first_broken breaks (earlier ++ (x.what ∷ [])) l ≡ None)
   unfolding first_broken
   front_passes earlier x l e = go (breaks earlier x.what) refl e
     where
       later : Found
       later = first_broken breaks (earlier ++ (x.what ∷ [])) l
 
-      go : (t : Bool) → breaks earlier x.what ≡ t → choose t (λ _. Found.At x.place) (λ _. later) ≡ Found.Nowhere →
-          (breaks earlier x.what ≡ false) × (later ≡ Found.Nowhere)
+      go : (t : Bool) → breaks earlier x.what ≡ t → choose t (λ _. Some x.place) (λ _. later) ≡ None →
+          (breaks earlier x.what ≡ false) × (later ≡ None)
       go true h e = at_not_nowhere e
       go false h e = (h, e)
 
   -- nowhere: each element, given those before it, passes
   pub nowhere_passes : (earlier : List A) {l : List (Placed A)} {before : List A} {p : ℕ} {x : A} → Stands l before p x →
-      first_broken breaks earlier l ≡ Found.Nowhere → breaks (earlier ++ before) x ≡ false
+      first_broken breaks earlier l ≡ None → breaks (earlier ++ before) x ≡ false
   nowhere_passes earlier (first {y} {l} i j) e = rw (append-nil, ← j) (front_passes earlier y l e).0
   nowhere_passes earlier (next {y} {l} {before} s) e =
       rw append_assoc at (nowhere_passes (earlier ++ (y.what ∷ [])) s (front_passes earlier y l e).1)
 
   pub passes_nowhere : (earlier : List A) (l : List (Placed A)) →
-      ((before : List A) (p : ℕ) (x : A) → Stands l before p x → breaks (earlier ++ before) x ≡ false) → first_broken breaks earlier l ≡ Found.Nowhere
+      ((before : List A) (p : ℕ) (x : A) → Stands l before p x → breaks (earlier ++ before) x ≡ false) → first_broken breaks earlier l ≡ None
   unfolding first_broken
   passes_nowhere earlier [] h = refl
   passes_nowhere earlier (y ∷ l) h =
@@ -79,7 +93,7 @@ module _ {A : Type 0} (breaks : List A → A → Bool) where
     pub broken : breaks (earlier ++ before) what ≡ true
     pub others : (b : List A) (q : ℕ) (y : A) → Stands l b q y → length b < length before → breaks (earlier ++ b) y ≡ false
 
-  pub at_first : (earlier : List A) (l : List (Placed A)) (p : ℕ) → first_broken breaks earlier l ≡ Found.At p → FirstBreak earlier l p
+  pub at_first : (earlier : List A) (l : List (Placed A)) (p : ℕ) → first_broken breaks earlier l ≡ Some p → FirstBreak earlier l p
   unfolding first_broken
   at_first earlier [] p e = at_not_nowhere (sym e)
   at_first earlier (y ∷ l) p e = go (breaks earlier y.what) refl e (at_first (earlier ++ (y.what ∷ [])) l p)
@@ -93,8 +107,8 @@ module _ {A : Type 0} (breaks : List A → A → Bool) where
       sooner n h o (first i j) less = rw (append-nil, ← j) h
       sooner n h o (next {before = b} s) less = rw append_assoc at (o b _ _ s (omega arith))
 
-      go : (t : Bool) → breaks earlier y.what ≡ t → choose t (λ _. Found.At y.place) (λ _. later) ≡ Found.At p →
-          (later ≡ Found.At p → FirstBreak (earlier ++ (y.what ∷ [])) l p) → FirstBreak earlier (y ∷ l) p
+      go : (t : Bool) → breaks earlier y.what ≡ t → choose t (λ _. Some y.place) (λ _. later) ≡ Some p →
+          (later ≡ Some p → FirstBreak (earlier ++ (y.what ∷ [])) l p) → FirstBreak earlier (y ∷ l) p
       go true h e ih = record {
         before = [];
         what = y.what;
@@ -113,7 +127,7 @@ module _ {A : Type 0} (breaks : List A → A → Bool) where
           }
 
   pub first_at : (earlier : List A) {l : List (Placed A)} {before : List A} {p : ℕ} {x : A} → Stands l before p x → breaks (earlier ++ before) x ≡ true →
-      ((b : List A) (q : ℕ) (y : A) → Stands l b q y → length b < length before → breaks (earlier ++ b) y ≡ false) → first_broken breaks earlier l ≡ Found.At p
+      ((b : List A) (q : ℕ) (y : A) → Stands l b q y → length b < length before → breaks (earlier ++ b) y ≡ false) → first_broken breaks earlier l ≡ Some p
   unfolding first_broken
   first_at earlier (first {y} i j) e others =
       let here : breaks earlier y.what ≡ true = rw j (rw append-nil at e) in
@@ -153,90 +167,90 @@ module _ (broken : Rule → Found) where
   -- every rule of the list is broken nowhere
   pub data NoneBroken : List Rule → Type 0 where
     none : NoneBroken []
-    more : {r : Rule} {rules : List Rule} → broken r ≡ Found.Nowhere → NoneBroken rules → NoneBroken (r ∷ rules)
+    more : {r : Rule} {rules : List Rule} → broken r ≡ None → NoneBroken rules → NoneBroken (r ∷ rules)
 
   -- of the list's rules, k is the first with a place, and that is p
   pub data FirstRule (k : Rule) (p : ℕ) : List Rule → Type 0 where
-    here : {r : Rule} {rules : List Rule} → k ≡ r → broken k ≡ Found.At p → FirstRule k p (r ∷ rules)
-    later : {r : Rule} {rules : List Rule} → broken r ≡ Found.Nowhere → FirstRule k p rules → FirstRule k p (r ∷ rules)
+    here : {r : Rule} {rules : List Rule} → k ≡ r → broken k ≡ Some p → FirstRule k p (r ∷ rules)
+    later : {r : Rule} {rules : List Rule} → broken r ≡ None → FirstRule k p rules → FirstRule k p (r ∷ rules)
 
-  pub accepted_none : (rules : List Rule) → first_refusal broken rules ≡ Answer.Accepted → NoneBroken rules
+  pub accepted_none : (rules : List Rule) → first_refusal broken rules ≡ acceptance → NoneBroken rules
   unfolding first_refusal
   accepted_none [] e = none
   accepted_none (r ∷ rules) e = go (broken r) refl e (accepted_none rules)
     where
-      go : (f : Found) → broken r ≡ f → refused_at r f (first_refusal broken rules) ≡ Answer.Accepted →
-          (first_refusal broken rules ≡ Answer.Accepted → NoneBroken rules) → NoneBroken (r ∷ rules)
-      go (Found.At p) h e ih = refused_not_accepted e
-      go Found.Nowhere h e ih = more h (ih e)
+      go : (f : Found) → broken r ≡ f → refused_at r f (first_refusal broken rules) ≡ acceptance →
+          (first_refusal broken rules ≡ acceptance → NoneBroken rules) → NoneBroken (r ∷ rules)
+      go (Some p) h e ih = refused_not_accepted e
+      go None h e ih = more h (ih e)
 
-  pub none_accepted : {rules : List Rule} → NoneBroken rules → first_refusal broken rules ≡ Answer.Accepted
+  pub none_accepted : {rules : List Rule} → NoneBroken rules → first_refusal broken rules ≡ acceptance
   unfolding first_refusal
   none_accepted none = refl
   none_accepted (more h u) = rw h (none_accepted u)
 
-  pub refused_first : (rules : List Rule) {k : Rule} {p : ℕ} → first_refusal broken rules ≡ Answer.Refused k p → FirstRule k p rules
+  pub refused_first : (rules : List Rule) {k : Rule} {p : ℕ} → first_refusal broken rules ≡ Err (refused k p) → FirstRule k p rules
   unfolding first_refusal
   refused_first [] e = refused_not_accepted (sym e)
   refused_first (r ∷ rules) {k} {p} e = go (broken r) refl e (refused_first rules)
     where
-      go : (f : Found) → broken r ≡ f → refused_at r f (first_refusal broken rules) ≡ Answer.Refused k p →
-          (first_refusal broken rules ≡ Answer.Refused k p → FirstRule k p rules) → FirstRule k p (r ∷ rules)
-      go (Found.At q) h e ih =
-          let same : k ≡ r = cc in
-          let place : q ≡ p = cc in
+      go : (f : Found) → broken r ≡ f → refused_at r f (first_refusal broken rules) ≡ Err (refused k p) →
+          (first_refusal broken rules ≡ Err (refused k p) → FirstRule k p rules) → FirstRule k p (r ∷ rules)
+      go (Some q) h e ih =
+          let same : k ≡ r = sym (one_rule e) in
+          let place : q ≡ p = one_place e in
           here same (rw (same, h, place))
-      go Found.Nowhere h e ih = later h (ih e)
+      go None h e ih = later h (ih e)
 
-  pub first_refused : {k : Rule} {p : ℕ} {rules : List Rule} → FirstRule k p rules → first_refusal broken rules ≡ Answer.Refused k p
+  pub first_refused : {k : Rule} {p : ℕ} {rules : List Rule} → FirstRule k p rules → first_refusal broken rules ≡ Err (refused k p)
   unfolding first_refusal
   first_refused (here same h) = rw (← same, h)
   first_refused (later h f) = rw h (first_refused f)
 
   -- the same by membership
-  pub none_each : {rules : List Rule} → NoneBroken rules → (k : Rule) → Memᴰ k rules → broken k ≡ Found.Nowhere
+  pub none_each : {rules : List Rule} → NoneBroken rules → (k : Rule) → Memᴰ k rules → broken k ≡ None
   none_each (more h u) k (Memᴰ.head e) = rw e h
   none_each (more h u) k (Memᴰ.tail m) = none_each u k m
   none_each none k x3 = elim x3 [ ]
 
-  pub each_none : (rules : List Rule) → ((k : Rule) → Memᴰ k rules → broken k ≡ Found.Nowhere) → NoneBroken rules
+  pub each_none : (rules : List Rule) → ((k : Rule) → Memᴰ k rules → broken k ≡ None) → NoneBroken rules
   each_none [] h = none
   each_none (r ∷ rules) h = more (h r (Memᴰ.head refl)) (each_none rules (λ k m. h k (Memᴰ.tail m)))
 
   -- the same by the rules' numbers, where the list has them in rising order
   pub first_lower : {k : Rule} {p from : ℕ} {rules : List Rule} → Rising from rules → FirstRule k p rules →
-      (j : Rule) → Memᴰ j rules → number_of j < number_of k → broken j ≡ Found.Nowhere
+      (j : Rule) → Memᴰ j rules → number_of j < number_of k → broken j ≡ None
   first_lower (rise l r) (here same h) j m less = absurd (omega (arith, ap number_of same, first_least r m))
   first_lower (rise l r) (later h f) j (Memᴰ.head e) less = rw e h
   first_lower (rise l r) (later h f) j (Memᴰ.tail m) less = first_lower r f j m less
   first_lower {k = k} {p = p} (done {from = from}) x10 j m less = elim x10 [ ]
 
-  pub lower_first : {k : Rule} {p from : ℕ} {rules : List Rule} → Rising from rules → Memᴰ k rules → broken k ≡ Found.At p →
-      ((j : Rule) → Memᴰ j rules → number_of j < number_of k → broken j ≡ Found.Nowhere) → FirstRule k p rules
+  pub lower_first : {k : Rule} {p from : ℕ} {rules : List Rule} → Rising from rules → Memᴰ k rules → broken k ≡ Some p →
+      ((j : Rule) → Memᴰ j rules → number_of j < number_of k → broken j ≡ None) → FirstRule k p rules
   lower_first (rise l r) (Memᴰ.head e) h n = here e h
   lower_first {rules = q ∷ rules} (rise l r) (Memᴰ.tail m) h n =
       later (n q (Memᴰ.head refl) (rising_above r m)) (lower_first r m h (λ j i less. n j (Memᴰ.tail i) less))
   lower_first {k = k} {p = p} (done {from = from}) x10 h n = elim x10 [ ]
 
   -- the rule is in the list, and has the place
-  pub first_broken_lem : {k : Rule} {p : ℕ} {rules : List Rule} → FirstRule k p rules → broken k ≡ Found.At p
+  pub first_broken_lem : {k : Rule} {p : ℕ} {rules : List Rule} → FirstRule k p rules → broken k ≡ Some p
   first_broken_lem (here same h) = h
   first_broken_lem (later h f) = first_broken_lem f
 
 -- two ways to look for the place of a rule that agree, one rule after the other, as long as nothing was found
 pub data Agrees (a b : Rule → Found) : List Rule → Type 0 where
   agree_none : Agrees a b []
-  agree_more : {rule : Rule} {l : List Rule} → a rule ≡ b rule → (a rule ≡ Found.Nowhere → Agrees a b l) → Agrees a b (rule ∷ l)
+  agree_more : {rule : Rule} {l : List Rule} → a rule ≡ b rule → (a rule ≡ None → Agrees a b l) → Agrees a b (rule ∷ l)
 
 pub same_refusal : {a b : Rule → Found} {rules : List Rule} → Agrees a b rules → first_refusal a rules ≡ first_refusal b rules
 unfolding first_refusal
 same_refusal agree_none = refl
 same_refusal {a} {b} (agree_more {rule} {l} same others) = go (a rule) refl (λ e. same_refusal (others e))
   where
-    go : (found : Found) → a rule ≡ found → (a rule ≡ Found.Nowhere → first_refusal a l ≡ first_refusal b l) →
+    go : (found : Found) → a rule ≡ found → (a rule ≡ None → first_refusal a l ≡ first_refusal b l) →
         refused_at rule (a rule) (first_refusal a l) ≡ refused_at rule (b rule) (first_refusal b l)
-    go (Found.At place) e rest = rw (← same, e)
-    go Found.Nowhere e rest = rw (← same, e) (rest e)
+    go (Some place) e rest = rw (← same, e)
+    go None e rest = rw (← same, e) (rest e)
 
 -- rules in two lists, one after the other
 pub refusal_append : (broken : Rule → Found) (a b : List Rule) → first_refusal broken (a ++ b) ≡ after_answer (first_refusal broken a) (first_refusal broken b)
@@ -246,5 +260,5 @@ refusal_append broken (rule ∷ a) b = go (broken rule) (refusal_append broken a
   where
     go : (found : Found) → first_refusal broken (a ++ b) ≡ after_answer (first_refusal broken a) (first_refusal broken b) →
         refused_at rule found (first_refusal broken (a ++ b)) ≡ after_answer (refused_at rule found (first_refusal broken a)) (first_refusal broken b)
-    go (Found.At place) rest = refl
-    go Found.Nowhere rest = rest
+    go (Some place) rest = refl
+    go None rest = rest

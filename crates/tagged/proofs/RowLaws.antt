@@ -1,5 +1,7 @@
 -- Rows: what is written is read back and what is read is written back; a row that fits has a number below its bound for each width;
 -- and one turn of each loop over a row. By induction on the row. Assumes nothing.
+use Rattle.tagged.specs.Answers.{acceptance, refused}
+use Rattle.std.specs.Prelude.{Err}
 use mathlib.Core.Path.{◌≡◌, refl, ap, ap₂}
 use mathlib.Core.Bool.{Bool, true, false, cond, ◌&&◌, false≢true, and-false, and-eq-true_iff}
 use mathlib.Core.List.{List, [], ◌∷◌, ◌++◌, append_assoc, append-nil}
@@ -9,14 +11,13 @@ use native.Mathlib.Numerals.{add-one}
 use native.Mathlib.Omega.{arith}
 use lib.Dec.{eqb}
 use lib.ListN.{length, get_or, take, drop, set, drop_of_length-le}
-use lib.Seq.{sets, take_all, take-suc, take-suc-set, drop-cons, drop-drop}
+use lib.Seq.{take_all, take-suc, take-suc-set, drop-cons, drop-drop}
 use borrow.Author.Tests.{ltb-true, eqb-true, eq-eqb, ne_eqb}
 use Rattle.words.specs.Widths.{fits_width}
 use Rattle.tagged.specs.Bytes.{AllBytes, four_bytes, four_of, Wrote}
 use Rattle.tagged.specs.Fields.{all_bytes_of}
 use Rattle.tagged.specs.Rows.{row_bytes, row_numbers, all_fit, rows_fit, row_answer}
 use Rattle.tagged.specs.declared.answers.Rule.TheVariants as Rule
-use Rattle.tagged.specs.declared.answers.Answer.TheVariants as Answer
 use Rattle.tagged.proofs.ByteLaws.{bytes_four, four_front, bytes_drop}
 use Rattle.tagged.proofs.WriteLaws.{wrote_then}
 use Rattle.tagged.proofs.AllBytesLaws.{bytes_joined}
@@ -103,21 +104,17 @@ pub write_turn : {o o₁ o₂ : List ℕ} {i i₁ i₂ : ℕ} (values : List ℕ
 unfolding all_bytes_of
 write_turn values at h w v = rw (add-one, take-suc values at 0 h, bytes_joined four_bytes, append-nil) (wrote_then w v)
 
-pub write_done : {o o₁ : List ℕ} {i i₁ : ℕ} (values : List ℕ) (at : ℕ) → length values ≤ at →
-    Wrote o i (row_bytes (take at values)) o₁ i₁ → o₁ ≡ sets o i (row_bytes values)
-write_done values at h w = rw (take_all at values h) at w.list
-
 -- accepted rows: their lengths, and numbers that fit
 pub record RowAccepted (widths row : List ℕ) (next_length : ℕ) : Type 0 where
   pub long : length row ≡ 4 * length widths
   pub next : next_length ≡ 4 * length widths
   pub fits : all_fit widths (row_numbers (length widths) row) ≡ true
 
-pub row_accepted : (widths row : List ℕ) (next_length : ℕ) → row_answer widths row next_length ≡ Answer.Accepted → RowAccepted widths row next_length
+pub row_accepted : (widths row : List ℕ) (next_length : ℕ) → row_answer widths row next_length ≡ acceptance → RowAccepted widths row next_length
 unfolding row_answer rows_fit
 row_accepted widths row next_length e = go (rows_fit widths row next_length) refl e
   where
-    go : (t : Bool) → rows_fit widths row next_length ≡ t → cond t Answer.Accepted (Answer.Refused Rule.Row 0) ≡ Answer.Accepted → RowAccepted widths row next_length
+    go : (t : Bool) → rows_fit widths row next_length ≡ t → cond t acceptance (Err (refused Rule.Row 0)) ≡ acceptance → RowAccepted widths row next_length
     go false p q = absurd (let z : ◌≡◌ {A = ℕ} 0 1 = cc in omega arith)
     go true p q =
         let both = (and-eq-true_iff (eqb (length row) (4 * length widths) && eqb next_length (4 * length widths)) _).0 p in

@@ -1,5 +1,6 @@
 -- Laws of a list of fields that was passed: by which sorts, what is read of it and what each element read has; where such a list stops;
 -- and that a list that is written is passed and read as it was. By induction on the fields that it was passed by, or on the list.
+use Rattle.std.specs.Prelude.{Ok, Err}
 use mathlib.Core.Path.{◌≡◌, refl, sym, ap, ◌∙◌}
 use mathlib.Core.Bool.{Bool, true, false, true≢false}
 use mathlib.Core.List.{List, [], ◌∷◌, ◌++◌, append-nil, Memᴰ}
@@ -10,10 +11,7 @@ use borrow.Author.Tests.{eqb-true}
 use Rattle.tagged.specs.Bytes.{AllBytes}
 use Rattle.tagged.specs.Sorts.{tag_of, is_sort}
 use Rattle.tagged.specs.declared.sorts.Sort.{Sort}
-use Rattle.tagged.specs.declared.fields.Opened.{Opened}
-use Rattle.tagged.specs.declared.fields.Step.{Step}
-use Rattle.tagged.specs.declared.fields.Judged.{Judged}
-use Rattle.tagged.specs.Fields.{field_bytes, all_bytes_of, open_of, Body, field_by, ended, many, any_sort, until_end, read_placed, unplaced, placed_by}
+use Rattle.tagged.specs.Fields.{faultless, Opened, Step, field_bytes, all_bytes_of, open_of, Body, field_by, ended, many, any_sort, until_end, read_placed, unplaced, placed_by}
 use Rattle.tagged.proofs.ByteLaws.{bytes_drop, bytes_take, two_lt}
 use Rattle.tagged.proofs.FieldLaws.{Whole, open_whole}
 use Rattle.tagged.proofs.ListLaws.{read_end, read_stop, read_more, read_anywhere}
@@ -27,11 +25,11 @@ run_within (stop off) = omega arith
 run_within {l = l} (more {m = j} p is tail) = omega (arith, run_within tail, length-drop j l, p.bytes, p.whole.within)
 
 pub many_within : (wanted : Sort → Bool) (body : Body) (base owner : ℕ) (l : List ℕ) (r : Step) (m : ℕ) →
-    r ≡ many wanted (field_by body) base owner l → r ≡ Step.Past m → m ≤ length l
+    r ≡ many wanted (field_by body) base owner l → r ≡ Ok m → m ≤ length l
 many_within wanted body base owner l r m p q = run_within (many_run wanted body (length l) base owner l m (omega arith) (sym p ∙ q))
 
 -- a run over all fields is one over the wanted ones, where every other has a fault
-pub only_wanted : (wanted : Sort → Bool) (body : Body) → ((base : ℕ) (s : Sort) (l : List ℕ) → AllBytes l → body base s l ≡ Judged.Fine → wanted s ≡ true) →
+pub only_wanted : (wanted : Sort → Bool) (body : Body) → ((base : ℕ) (s : Sort) (l : List ℕ) → AllBytes l → body base s l ≡ faultless → wanted s ≡ true) →
     {base m : ℕ} {l : List ℕ} → AllBytes l → Run any_sort body base l m → Run wanted body base l m
 only_wanted wanted body only h (stop off) = stop (λ s n w. absurd (true≢false (off s n w)))
 only_wanted wanted body only {base} {l = l} h (more {m = j} p is tail) =
@@ -39,8 +37,8 @@ only_wanted wanted body only {base} {l = l} h (more {m = j} p is tail) =
     (only_wanted wanted body only (bytes_drop j l h) tail)
 
 -- fields until the end: where every other has a fault, the wanted ones take the whole list
-pub until_run : (wanted : Sort → Bool) (body : Body) → ((base : ℕ) (s : Sort) (l : List ℕ) → AllBytes l → body base s l ≡ Judged.Fine → wanted s ≡ true) →
-    (base owner : ℕ) (l : List ℕ) → AllBytes l → until_end (field_by body) base owner l ≡ Judged.Fine → (m : ℕ) × Run wanted body base l m × (length l ≤ m)
+pub until_run : (wanted : Sort → Bool) (body : Body) → ((base : ℕ) (s : Sort) (l : List ℕ) → AllBytes l → body base s l ≡ faultless → wanted s ≡ true) →
+    (base owner : ℕ) (l : List ℕ) → AllBytes l → until_end (field_by body) base owner l ≡ faultless → (m : ℕ) × Run wanted body base l m × (length l ≤ m)
 until_run wanted body only base owner l h e =
     let t = then_tells (many any_sort (field_by body)) ended base owner l e in
     let over = ended_tells (base + t.size) owner (drop t.size l) t.rest in
@@ -49,7 +47,7 @@ until_run wanted body only base owner l h e =
 
 -- what every payload without a fault gives, every element of the list read has
 module _ {A : Type 0} (wanted : Sort → Bool) (body : Body) (read : Sort → List ℕ → A) (P : A → Type 0)
-    (has : (at : ℕ) (s : Sort) (l : List ℕ) → AllBytes l → length l < 65536 → wanted s ≡ true → body at s l ≡ Judged.Fine → P (read s l)) where
+    (has : (at : ℕ) (s : Sort) (l : List ℕ) → AllBytes l → length l < 65536 → wanted s ≡ true → body at s l ≡ faultless → P (read s l)) where
   of_none : (a : A) → Memᴰ a [] → P a
   of_none a m = elim m [ ]
 
@@ -61,8 +59,8 @@ module _ {A : Type 0} (wanted : Sort → Bool) (body : Body) (read : Sort → Li
   none_read base l off = go (open_of 0 0 l) refl
     where
       go : (o : Opened) → open_of 0 0 l ≡ o → (a : A) → Memᴰ a (unplaced (read_placed wanted read base l)) → P a
-      go (Opened.Field s n) p = let w = open_whole 0 0 l p in rw (read_stop wanted read base l w (off s n w)) of_none
-      go (Opened.Refused y) p = rw (read_end wanted read base l y p) of_none
+      go (Ok (s, n)) p = let w = open_whole 0 0 l p in rw (read_stop wanted read base l w (off s n w)) of_none
+      go (Err y) p = rw (read_end wanted read base l y p) of_none
 
   pub run_has : {base : ℕ} {l : List ℕ} {m : ℕ} → AllBytes l → Run wanted body base l m → (a : A) → Memᴰ a (unplaced (read_placed wanted read base l)) → P a
   run_has {base} {l} h (stop off) = none_read base l off
@@ -88,7 +86,7 @@ pub record Listed {A : Type 0} (wanted : Sort → Bool) (read : Sort → List �
 
 pub run_listed : {A : Type 0} (wanted : Sort → Bool) (body : Body) (read : Sort → List ℕ → A) (bytes : A → List ℕ)
     (known : Known wanted)
-    (back : (base : ℕ) (s : Sort) (payload : List ℕ) → AllBytes payload → wanted s ≡ true → body base s payload ≡ Judged.Fine
+    (back : (base : ℕ) (s : Sort) (payload : List ℕ) → AllBytes payload → wanted s ≡ true → body base s payload ≡ faultless
     → bytes (read s payload) ≡ field_bytes (tag_of s) payload)
     {base : ℕ} {l : List ℕ} {m : ℕ} → AllBytes l → Run wanted body base l m → Listed wanted read bytes base l m
 run_listed wanted body read bytes known back {base} {l} {m} h run =
@@ -127,7 +125,7 @@ module _ {A : Type 0} (wanted : Sort → Bool) (body : Body) (read : Sort → Li
   any_each (more x each) = Each.more (record { sort = x.sort; payload = x.payload; field = x.field; short = x.short; is = refl; fine = x.fine; back = x.back })
       (any_each each)
 
-  pub until_stands : {l : List A} (base owner : ℕ) → Each wanted body read bytes l → until_end (field_by body) base owner (all_bytes_of bytes l) ≡ Judged.Fine
+  pub until_stands : {l : List A} (base owner : ℕ) → Each wanted body read bytes l → until_end (field_by body) base owner (all_bytes_of bytes l) ≡ faultless
   until_stands {l} base owner each =
       last_written (many any_sort (field_by body)) base owner (all_bytes_of bytes l)
       (list_many any_sort body read bytes base owner [] (any_each each) (stops_none any_sort))

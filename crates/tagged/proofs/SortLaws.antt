@@ -5,7 +5,7 @@ use Prim.Native.Nat.{ℕ, zero, suc, ◌≤◌, ◌<◌}
 use native.Mathlib.Decide.{dec_lt}
 use native.Mathlib.Omega.{arith}
 use lib.Dec.{eqb}
-use borrow.Author.Tests.{eqb-true, eq-eqb}
+use borrow.Author.Tests.{eqb-true, eq-eqb, ne_eqb}
 use Rattle.words.specs.declared.OneOperand.TheVariants as one
 use Rattle.words.specs.declared.TwoOperand.TheVariants as two
 use Rattle.tagged.specs.declared.sorts.DeclarationSort.{DeclarationSort}
@@ -188,3 +188,7 @@ is_itself a = eq-eqb (tag_of a) (tag_of a) refl
 -- a sort with the tag of another is that
 pub same_sort : (a b : Sort) → is_sort a b ≡ true → b ≡ a
 same_sort a b is = sym (sort_back b) ∙ ap sort_of (sym (eqb-true (tag_of a) (tag_of b) is)) ∙ sort_back a
+
+-- another sort has another tag
+pub other_sort : (a b : Sort) → (b ≡ a → ⊥) → is_sort a b ≡ false
+other_sort a b other = ne_eqb (tag_of a) (tag_of b) (λ same. other (same_sort a b (eq-eqb (tag_of a) (tag_of b) same)))

@@ -1,11 +1,12 @@
 -- Writing: bytes after bytes are one writing, a buffer keeps its length, and with room it holds just what was written.
 use mathlib.Core.Path.{◌≡◌, refl, sym, ap, ◌∙◌}
 use mathlib.Core.List.{List, [], ◌∷◌, ◌++◌, append-nil}
-use Prim.Native.Nat.{ℕ, zero, suc, ◌+◌, ◌≤◌}
+use Prim.Native.Nat.{ℕ, zero, suc, ◌+◌, ◌≤◌, ◌<◌}
 use native.Mathlib.Nat.{add-zero, add_assoc, add-suc, suc-add}
+use native.Mathlib.Numerals.{add-one}
 use native.Mathlib.Omega.{arith}
-use lib.ListN.{length, take, drop, length-append, set, drop_of_length-le}
-use lib.Seq.{sets, sets-eq, length-sets}
+use lib.ListN.{length, get_or, take, drop, length-append, set, drop_of_length-le}
+use lib.Seq.{take-suc, sets, sets-eq}
 use Rattle.tagged.specs.Bytes.{Wrote}
 
 -- two runs of bytes, one after the other, are one run
@@ -26,13 +27,14 @@ wrote_then {o} {o₁} {o₂} {a} {b} {i} {i₁} {i₂} w v = record {
 pub wrote_none : {o : List ℕ} {i : ℕ} → Wrote o i [] o i
 wrote_none {o} {i} = record { list = refl; past = sym (add-zero i) }
 
+-- so many bytes of a part, and one more
+pub part_turn : {o o₁ o₂ : List ℕ} {i i₁ i₂ : ℕ} (part : List ℕ) (index : ℕ) → index < length part →
+    Wrote o i (take index part) o₁ i₁ → Wrote o₁ i₁ (get_or part index 0 ∷ []) o₂ i₂ → Wrote o i (take (index + 1) part) o₂ i₂
+part_turn part index h w v = rw (add-one, take-suc part index 0 h) (wrote_then w v)
+
 -- where there is room: the bytes before, these, the bytes after
 pub wrote_roomy : {o o' bs : List ℕ} {i i' : ℕ} → Wrote o i bs o' i' → i + length bs ≤ length o → o' ≡ take i o ++ bs ++ drop (i + length bs) o
 wrote_roomy {o} {o'} {bs} {i} w h = w.list ∙ sets-eq bs o i h
-
--- the buffer keeps its length
-pub wrote_length : {o o' bs : List ℕ} {i i' : ℕ} → Wrote o i bs o' i' → length o' ≡ length o
-wrote_length {o} {o'} {bs} {i} w = ap length w.list ∙ length-sets o i bs
 
 -- past the end there is no room
 sets_outside : (o : List ℕ) (i : ℕ) (bs : List ℕ) → length o ≤ i → sets o i bs ≡ o

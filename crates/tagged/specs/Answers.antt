@@ -1,9 +1,42 @@
 -- Answers: the numbers of document 01 for each case, and the values in which C gets them.
-use Rattle.std.specs.Prelude.{ℕ, cond, List, ◌≡◌, eqb}
+use Rattle.std.specs.Prelude.{Option, Result, Ok, Err, ℕ, cond, List, ◌≡◌, eqb}
 use Rattle.tagged.specs.declared.answers.Rule.{Rule}
-use Rattle.tagged.specs.declared.answers.Answer.{Answer}
-use Rattle.tagged.specs.declared.answers.Translation.{Translation}
+use Rattle.tagged.specs.declared.answers.Refusal.{Refusal}
+use Rattle.tagged.specs.declared.answers.Written.{Written}
+use Rattle.tagged.specs.declared.answers.Fault.{Fault}
 use Rattle.tagged.specs.declared.answers.Reply.{Reply}
+
+-- a refusal by this rule, at this place
+abbrev pub refused : Rule → ℕ → Refusal
+refused rule place = record { rule = rule; place = place }
+
+-- a fault of the form, at this place
+abbrev pub fault_at : ℕ → Fault
+fault_at place = record { place = place }
+
+-- it is refusal 2
+abbrev pub refused_form : Fault → Refusal
+refused_form fault = refused Rule.Form fault.place
+
+-- a netlist of this length and count of cells
+abbrev pub written : ℕ → ℕ → Written
+written length cells = record { length = length; cells = cells }
+
+-- what a check, a reading or a run answers: acceptance, or a refusal
+abbrev pub Answer : Type 0
+Answer = Result (Unit {0}) Refusal
+
+-- acceptance
+abbrev pub acceptance : Answer
+acceptance = Ok tt
+
+-- what translating answers: what was written, or a refusal
+abbrev pub Translation : Type 0
+Translation = Result Written Refusal
+
+-- the place where something was found, if it was
+abbrev pub Found : Type 0
+Found = Option ℕ
 
 -- the table of refusals: the number of each, in the order in which they are looked for
 unfoldable pub number_of : Rule → ℕ
@@ -22,15 +55,19 @@ number_of Rule.Cells = 12
 number_of Rule.Buffer = 13
 number_of Rule.Row = 14
 
--- acceptance is number 0; a refusal has its number and place
+-- a refusal has its number and place
+unfoldable pub refusal_reply : Refusal → Reply
+refusal_reply e = record { number = number_of e.rule; cells = 0; at = e.place }
+
+-- acceptance is number 0
 unfoldable pub reply_of : Answer → Reply
-reply_of Answer.Accepted = record { number = 0; cells = 0; at = 0 }
-reply_of (Answer.Refused rule place) = record { number = number_of rule; cells = 0; at = place }
+reply_of (Ok _) = record { number = 0; cells = 0; at = 0 }
+reply_of (Err e) = record { number = number_of e.rule; cells = 0; at = e.place }
 
 -- translating returns length and cell count, or a refusal
 unfoldable pub translation_reply : Translation → Reply
-translation_reply (Translation.Written length cells) = record { number = 0; cells = cells; at = length }
-translation_reply (Translation.Refused rule place) = record { number = number_of rule; cells = 0; at = place }
+translation_reply (Ok e) = record { number = 0; cells = e.cells; at = e.length }
+translation_reply (Err e) = record { number = number_of e.rule; cells = 0; at = e.place }
 
 -- and back: the rule with a number, the answer and the translation that a reply stands for
 unfoldable pub rule_of : ℕ → Rule
@@ -50,10 +87,10 @@ rule_of n =
     (cond (eqb n 13) Rule.Buffer Rule.Row))))))))))))
 
 unfoldable pub answer_of : Reply → Answer
-answer_of r = cond (eqb r.number 0) Answer.Accepted (Answer.Refused (rule_of r.number) r.at)
+answer_of r = cond (eqb r.number 0) acceptance (Err (refused (rule_of r.number) r.at))
 
 unfoldable pub translation_of : Reply → Translation
-translation_of r = cond (eqb r.number 0) (Translation.Written r.at r.cells) (Translation.Refused (rule_of r.number) r.at)
+translation_of r = cond (eqb r.number 0) (Ok (written r.at r.cells)) (Err (refused (rule_of r.number) r.at))
 
 -- what a call promises, on every input: the answer wanted, and what the lent memory is then
 pub record Promise {A : Type 0} (wanted : A) (left : List ℕ) (answer : A) (lent : List ℕ) : Type 0 where

@@ -1,20 +1,17 @@
 -- Declarations, which modules and netlists share: tags 02 and 03, refusals 2 to 5 on them, and what they declare.
-use Rattle.std.specs.Prelude.{Bool, true, false, ◌||◌, not, List, [], ◌∷◌, ◌++◌, map, ℕ, zero, suc, ◌+◌, leb, length, get_or, drop, set}
+use Rattle.tagged.specs.Answers.{fault_at, Found, Answer}
+use Rattle.std.specs.Prelude.{Err, Bool, true, false, ◌||◌, not, List, [], ◌∷◌, ◌++◌, map, ℕ, zero, suc, ◌+◌, leb, length, get_or, drop, set}
 use Rattle.words.specs.Widths.{is_width, fits_width}
 use Rattle.tagged.specs.Limits.{most_variables}
 use Rattle.tagged.specs.Bytes.{four_bytes, four_of}
 use Rattle.tagged.specs.Sorts.{on_declaration, is_declaration, tag_of}
-use Rattle.tagged.specs.Fields.{Stepper, Body, field_by, fixed_then, any_bytes, many, field_bytes, open_of, on_field, passed_bytes, Placed, read_placed, unplaced, placed_by}
+use Rattle.tagged.specs.Fields.{Stepper, Body, field_by, fixed_then, any_bytes, many, field_bytes, passed_bytes, Placed, read_placed, unplaced, placed_by}
 use Rattle.tagged.specs.Names.{is_name, same_name}
 use Rattle.tagged.specs.Refusals.{first_broken, first_refusal}
 use Rattle.tagged.specs.declared.sorts.DeclarationSort.{DeclarationSort}
 use Rattle.tagged.specs.declared.sorts.Sort.{Sort}
-use Rattle.tagged.specs.declared.declarations.Next.{Next}
 use Rattle.tagged.specs.declared.declarations.VariableTable.{VariableTable}
-use Rattle.tagged.specs.declared.fields.Judged.{Judged}
 use Rattle.tagged.specs.declared.answers.Rule.{Rule}
-use Rattle.tagged.specs.declared.answers.Found.{Found}
-use Rattle.tagged.specs.declared.answers.Answer.{Answer}
 
 -- 02 input: width byte, name. 03 register: width byte, four-byte initial value, name
 pub data Declaration : Type 0 where
@@ -61,7 +58,7 @@ fixed_bytes DeclarationSort.Register = 5
 
 -- a declaration's payload: its fixed bytes, then the name, which may be empty here; another sort of field is a wrong tag
 unfoldable pub declaration_body : Body
-declaration_body at s l = on_declaration s (λ d. fixed_then (fixed_bytes d) any_bytes (at + 3) at l) (Judged.Refused at)
+declaration_body at s l = on_declaration s (λ d. fixed_then (fixed_bytes d) any_bytes (at + 3) at l) (Err (fault_at at))
 
 -- the declarations at the front: how many bytes they take, or the first fault
 unfoldable pub declarations_step : Stepper
@@ -75,10 +72,6 @@ declaration_in DeclarationSort.Register l = register (get_or l 0 0) (four_of (dr
 
 unfoldable pub declaration_read : Sort → List ℕ → Declaration
 declaration_read s l = on_declaration s (λ d. declaration_in d l) (input 0 [])
-
--- the declaration at the front, or the list's end
-unfoldable pub next_in : List ℕ → Next
-next_in l = on_field (open_of 0 0 l) (λ s n. on_declaration s (λ d. Next.Declaration d n) Next.Ended) Next.Ended
 
 -- the declarations at the front of a list of bytes, each with its place
 unfoldable pub declarations_at : ℕ → List ℕ → List (Placed Declaration)
@@ -151,29 +144,24 @@ variable_width ds v = get_or (map width_of ds) v 0
 abbrev pub register_at : List Declaration → ℕ → Bool
 register_at ds v = get_or (map is_register ds) v false
 
--- 1 for a register, 0 for an input
-abbrev pub register_mark : DeclarationSort → ℕ
-register_mark DeclarationSort.Input = 0
-register_mark DeclarationSort.Register = 1
-
--- a table of n numbers: the first ones of a list, then zeros
-unfoldable pub table_of : ℕ → List ℕ → List ℕ
-table_of zero l = []
-table_of (suc n) [] = 0 ∷ table_of n []
-table_of (suc n) (x ∷ l) = x ∷ table_of n l
+-- a table of n items: the first ones of a list, then what stands for none
+unfoldable pub table_of : {A : Type 0} → A → ℕ → List A → List A
+table_of none zero l = []
+table_of none (suc n) [] = none ∷ table_of none n []
+table_of none (suc n) (x ∷ l) = x ∷ table_of none n l
 
 -- how many variables there are, and of the first 64 the widths and which are registers
 unfoldable pub variable_table : List Declaration → VariableTable
 variable_table ds = record {
   count = length ds;
-  widths = table_of most_variables (map width_of ds);
-  registers = table_of most_variables (map (λ d. register_mark (sort_of_declaration d)) ds);
+  widths = table_of 0 most_variables (map width_of ds);
+  registers = table_of false most_variables (map is_register ds);
 }
 
 -- the table with one variable more, so far as there is room
-unfoldable pub with_variable : VariableTable → ℕ → ℕ → VariableTable
-with_variable t width mark = record {
+unfoldable pub with_variable : VariableTable → ℕ → Bool → VariableTable
+with_variable t width registered = record {
   count = t.count + 1;
   widths = set t.widths t.count width;
-  registers = set t.registers t.count mark;
+  registers = set t.registers t.count registered;
 }

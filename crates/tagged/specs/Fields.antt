@@ -1,13 +1,12 @@
 -- Fields: a tag byte, a two-byte length (high byte first) and a payload of that length; how they are written, opened, judged and listed.
 -- Throughout, `l` is what is left of a payload, `base` the place of its first byte in the file, `owner` the place of the field that holds it.
-use Rattle.std.specs.Prelude.{Bool, true, cond, List, [], ◌∷◌, ◌++◌, ℕ, zero, suc, ◌+◌, ◌-◌, ltb, leb, eqb, length, get_or, take, drop}
+use Rattle.tagged.specs.Answers.{fault_at}
+use Rattle.std.specs.Prelude.{Result, Ok, Err, Bool, true, cond, List, [], ◌∷◌, ◌++◌, ℕ, zero, suc, ◌+◌, ◌-◌, ltb, leb, eqb, length, get_or, take, drop}
 use Rattle.tagged.specs.Choice.{choose}
 use Rattle.tagged.specs.Bytes.{two_bytes, number_of_two}
 use Rattle.tagged.specs.Sorts.{sort_of}
 use Rattle.tagged.specs.declared.sorts.Sort.{Sort}
-use Rattle.tagged.specs.declared.fields.Opened.{Opened}
-use Rattle.tagged.specs.declared.fields.Judged.{Judged}
-use Rattle.tagged.specs.declared.fields.Step.{Step}
+use Rattle.tagged.specs.declared.answers.Fault.{Fault}
 
 -- how a field is written
 
@@ -20,7 +19,23 @@ unfoldable pub all_bytes_of : {A : Type 0} → (A → List ℕ) → List A → L
 all_bytes_of bytes [] = []
 all_bytes_of bytes (a ∷ l) = bytes a ++ all_bytes_of bytes l
 
--- how a field is opened
+-- how a field is opened, judged and passed
+
+-- a field's sort and its payload's length, or a fault
+abbrev pub Opened : Type 0
+Opened = Result (Sort × ℕ) Fault
+
+-- no fault, or one
+abbrev pub Judged : Type 0
+Judged = Result (Unit {0}) Fault
+
+-- no fault
+abbrev pub faultless : Judged
+faultless = Ok tt
+
+-- how many bytes were passed, or a fault
+abbrev pub Step : Type 0
+Step = Result ℕ Fault
 
 -- the length that the second and third byte give
 abbrev pub size_of : List ℕ → ℕ
@@ -30,9 +45,9 @@ size_of l = number_of_two (get_or l 1 0) (get_or l 2 0)
 -- A header or a payload beyond the enclosing payload: the place is its own
 unfoldable pub open_of : ℕ → ℕ → List ℕ → Opened
 open_of base owner l =
-    cond (eqb (length l) 0) (Opened.Refused owner)
-    (cond (ltb (length l) 3) (Opened.Refused base)
-    (cond (leb (size_of l) (length l - 3)) (Opened.Field (sort_of (get_or l 0 0)) (size_of l)) (Opened.Refused base)))
+    cond (eqb (length l) 0) (Err (fault_at owner))
+    (cond (ltb (length l) 3) (Err (fault_at base))
+    (cond (leb (size_of l) (length l - 3)) (Ok (sort_of (get_or l 0 0), size_of l)) (Err (fault_at base))))
 
 -- refusal 2, by ways to judge a payload
 
@@ -50,23 +65,23 @@ Body = ℕ → Sort → List ℕ → Judged
 
 -- a judged payload as a step over its whole field
 abbrev pub passing : Judged → ℕ → Step
-passing Judged.Fine m = Step.Past m
-passing (Judged.Refused place) m = Step.Refused place
+passing (Ok _) m = Ok m
+passing (Err fault) m = Err fault
 
 -- goes on with the field that was opened
 abbrev pub after_opening : Opened → (Sort → ℕ → Step) → Step
-after_opening (Opened.Field s n) k = k s n
-after_opening (Opened.Refused place) k = Step.Refused place
+after_opening (Ok (s, n)) k = k s n
+after_opening (Err fault) k = Err fault
 
 -- goes on past what was judged
 abbrev pub after_step : Step → (ℕ → Judged) → Judged
-after_step (Step.Past m) k = k m
-after_step (Step.Refused place) k = Judged.Refused place
+after_step (Ok m) k = k m
+after_step (Err fault) k = Err fault
 
 -- so many bytes more
 abbrev pub further : ℕ → Step → Step
-further k (Step.Past m) = Step.Past (k + m)
-further k (Step.Refused place) = Step.Refused place
+further k (Ok m) = Ok (k + m)
+further k (Err fault) = Err fault
 
 -- one field, whose payload `body` judges
 unfoldable pub field_by : Body → Stepper
@@ -78,28 +93,28 @@ then_by first next base owner l = after_step (first base owner l) (λ m. next (b
 
 -- so many fixed bytes, and then what `next` judges; a fixed byte missing: the owner
 unfoldable pub fixed_then : ℕ → Judge → Judge
-fixed_then n next base owner l = cond (ltb (length l) n) (Judged.Refused owner) (next (base + n) owner (drop n l))
+fixed_then n next base owner l = cond (ltb (length l) n) (Err (fault_at owner)) (next (base + n) owner (drop n l))
 
 -- nothing is left; bytes left over: the owner
 unfoldable pub ended : Judge
-ended base owner l = cond (eqb (length l) 0) Judged.Fine (Judged.Refused owner)
+ended base owner l = cond (eqb (length l) 0) faultless (Err (fault_at owner))
 
 -- whatever is left, as a name
 abbrev pub any_bytes : Judge
-any_bytes base owner l = Judged.Fine
+any_bytes base owner l = faultless
 
 -- goes on with the next field of a list
 abbrev pub next_field : Step → (ℕ → Step) → Step
-next_field (Step.Past m) k = k m
-next_field (Step.Refused place) k = Step.Refused place
+next_field (Ok m) k = k m
+next_field (Err fault) k = Err fault
 
 -- fields by `one` while the next tag begins a sort that `wanted` names; the first number is how many bytes are still to be passed over
 unfoldable pub many_from : (Sort → Bool) → Stepper → ℕ → Stepper
-many_from wanted one skip base owner [] = Step.Past 0
+many_from wanted one skip base owner [] = Ok 0
 many_from wanted one zero base owner (x ∷ l) =
     choose (wanted (sort_of x))
     (λ _. next_field (one base owner (x ∷ l)) (λ m. further 1 (many_from wanted one (m - 1) (base + 1) owner l)))
-    (λ _. Step.Past 0)
+    (λ _. Ok 0)
 many_from wanted one (suc n) base owner (x ∷ l) = further 1 (many_from wanted one n (base + 1) owner l)
 
 -- a list while a tag: fields by `one` while the next tag begins a wanted sort
@@ -108,8 +123,8 @@ many wanted one = many_from wanted one 0
 
 -- how many bytes were passed
 abbrev pub passed_bytes : Step → ℕ
-passed_bytes (Step.Past m) = m
-passed_bytes (Step.Refused place) = 0
+passed_bytes (Ok m) = m
+passed_bytes (Err fault) = 0
 
 -- every sort
 abbrev pub any_sort : Sort → Bool
@@ -128,8 +143,8 @@ pub record Placed (A : Type 0) : Type 0 where
 
 -- goes on with the field that was opened, or with what stands for none
 abbrev pub on_field : {A : Type 0} → Opened → (Sort → ℕ → A) → A → A
-on_field (Opened.Field s n) k none = k s n
-on_field (Opened.Refused place) k none = none
+on_field (Ok (s, n)) k none = k s n
+on_field (Err fault) k none = none
 
 -- each field of a wanted sort as `read` gives it, with its place, up to the first field that is not wanted
 unfoldable pub read_from : {A : Type 0} → (Sort → Bool) → (Sort → List ℕ → A) → ℕ → ℕ → List ℕ → List (Placed A)

@@ -6,10 +6,13 @@ pub mod Answers
 pub mod Sorts
 pub mod Bytes
 pub mod Fields
+pub mod Bodies
+pub mod Payloads
 pub mod Refusals
 pub mod Stands
 pub mod Files
 pub mod Names
+pub mod Walk
 pub mod Declarations
 pub mod DeclarationPhrases
 pub mod Parts

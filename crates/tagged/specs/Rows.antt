@@ -1,10 +1,10 @@
 -- Rows: four bytes for each variable, high byte first, in variable order; and refusal 14.
-use Rattle.std.specs.Prelude.{Bool, true, false, cond, ◌&&◌, List, [], ◌∷◌, ℕ, zero, suc, ◌*◌, eqb, length, drop}
+use Rattle.tagged.specs.Answers.{acceptance, refused, Answer}
+use Rattle.std.specs.Prelude.{Err, Bool, true, false, cond, ◌&&◌, List, [], ◌∷◌, ℕ, zero, suc, ◌*◌, eqb, length, drop}
 use Rattle.words.specs.Widths.{fits_width}
 use Rattle.tagged.specs.Bytes.{four_bytes, four_of}
 use Rattle.tagged.specs.Fields.{all_bytes_of}
 use Rattle.tagged.specs.declared.answers.Rule.TheVariants as Rule
-use Rattle.tagged.specs.declared.answers.Answer.{Answer}
 
 -- a row's bytes
 abbrev pub row_bytes : List ℕ → List ℕ
@@ -29,4 +29,4 @@ rows_fit widths row next_length =
 
 -- refusal 14 has place 0
 unfoldable pub row_answer : List ℕ → List ℕ → ℕ → Answer
-row_answer widths row next_length = cond (rows_fit widths row next_length) Answer.Accepted (Answer.Refused Rule.Row 0)
+row_answer widths row next_length = cond (rows_fit widths row next_length) acceptance (Err (refused Rule.Row 0))

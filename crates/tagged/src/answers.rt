@@ -1,10 +1,13 @@
 // Answers: acceptance, or one refusal by its rule and place; and the struct in which C gets them.
 ghost use Rattle.std.specs.Prelude.{◌≡◌};
-ghost use Rattle.tagged.specs.Answers.{number_of, reply_of, translation_reply};
-ghost use Rattle.tagged.specs.Refusals.{lower_refusal};
+ghost use Rattle.tagged.specs.Answers.{acceptance, number_of, reply_of, translation_reply, refusal_reply, refused_form};
+ghost use Rattle.tagged.specs.Refusals.{refused_at, found_if, lower_refusal};
+
+use std::error::Error;
+use std::fmt;
 
 // What a refusal is given for, in the order in which document 01 looks for them.
-#[derive(Clone, Copy)]
+#[derive(Clone, Copy, Debug, PartialEq, Eq, Hash)]
 pub enum Rule {
     FileLength,
     Form,
@@ -22,32 +25,29 @@ pub enum Rule {
     Row,
 }
 
-// What a check, a reading or a run answers.
-#[derive(Clone, Copy)]
-pub enum Answer {
-    Accepted,
-    // The rule, and the place.
-    Refused(Rule, usize),
+// A refusal: the rule that is broken, and the place. What a check, a reading or a run answers is a `Result<(), Refusal>`.
+#[derive(Clone, Copy, Debug, PartialEq, Eq, Hash)]
+pub struct Refusal {
+    pub rule: Rule,
+    pub place: usize,
 }
 
-// What translating answers.
-#[derive(Clone, Copy)]
-pub enum Translation {
-    // The netlist's length in bytes, and its count of cells.
-    Written(usize, u32),
-    Refused(Rule, usize),
+// What translating has written: the netlist's length in bytes, and its count of cells.
+#[derive(Clone, Copy, Debug, PartialEq, Eq, Hash)]
+pub struct Written {
+    pub length: usize,
+    pub cells: u32,
 }
 
-// Where something was found.
-#[derive(Clone, Copy)]
-pub enum Found {
-    Nowhere,
-    At(usize),
+// The first fault of a file's form, refusal 2, by its place.
+#[derive(Clone, Copy, Debug, PartialEq, Eq, Hash)]
+pub struct Fault {
+    pub place: usize,
 }
 
 // An answer for C: number 0 is acceptance; `at` is the place, or the length of what was written.
 #[repr(C)]
-#[derive(Clone, Copy)]
+#[derive(Clone, Copy, Debug, PartialEq, Eq, Hash)]
 pub struct Reply {
     pub number: u32,
     pub cells: u32,
@@ -56,6 +56,7 @@ pub struct Reply {
 
 impl Rule {
     // The number that document 01 gives.
+    #[tactic(auto, unfolding(crate::specs::Answers::number_of))]
     pub fn number(self) -> u32
         ensures { result ≡ number_of self }
     {
@@ -78,61 +79,88 @@ impl Rule {
     }
 }
 
-impl Answer {
-    // Of this answer and another the refusal with the lower number; of two with the same number this one.
-    pub fn or_lower(self, other: Answer) -> Answer
-        ensures { result ≡ lower_refusal self other }
-    {
-        match self {
-            Answer::Accepted => other,
-            Answer::Refused(rule, place) => match other {
-                Answer::Accepted => Answer::Refused(rule, place),
-                Answer::Refused(lower, elsewhere) => {
-                    if lower.number() < rule.number() {
-                        Answer::Refused(lower, elsewhere)
-                    } else {
-                        Answer::Refused(rule, place)
-                    }
-                }
-            },
-        }
+impl fmt::Display for Refusal {
+    fn fmt<W: fmt::Write>(&self, f: &mut fmt::Formatter<W>) -> fmt::Result {
+        write!(f, "refused {} at {}", self.rule.number(), self.place)
     }
+}
 
-    // The answer for C.
-    pub fn reply(self) -> Reply
-        ensures { result ≡ reply_of self }
-    {
-        match self {
-            Answer::Accepted => Reply {
-                number: 0,
-                cells: 0,
-                at: 0,
-            },
-            Answer::Refused(rule, place) => Reply {
-                number: rule.number(),
-                cells: 0,
-                at: place as u64,
-            },
+impl Error for Refusal {}
+
+impl From<Fault> for Refusal {
+    ghost from_gives = { λ fault refusal. refusal ≡ refused_form fault };
+
+    fn from(fault: Fault) -> Refusal {
+        Refusal {
+            rule: Rule::Form,
+            place: fault.place,
         }
     }
 }
 
-impl Translation {
-    // The answer for C.
-    pub fn reply(self) -> Reply
-        ensures { result ≡ translation_reply self }
-    {
-        match self {
-            Translation::Written(length, cells) => Reply {
-                number: 0,
-                cells,
-                at: length as u64,
-            },
-            Translation::Refused(rule, place) => Reply {
-                number: rule.number(),
-                cells: 0,
-                at: place as u64,
-            },
+impl From<Refusal> for Reply {
+    ghost from_gives = { λ refusal reply. reply ≡ refusal_reply refusal };
+
+    #[tactic(auto, unfolding(crate::specs::Answers::refusal_reply))]
+    fn from(refusal: Refusal) -> Reply {
+        Reply {
+            number: refusal.rule.number(),
+            cells: 0,
+            at: refusal.place as u64,
         }
+    }
+}
+
+impl From<Result<(), Refusal>> for Reply {
+    ghost from_gives = { λ answer reply. reply ≡ reply_of answer };
+
+    #[tactic(auto, unfolding(crate::specs::Answers::reply_of, crate::specs::Answers::refusal_reply))]
+    fn from(answer: Result<(), Refusal>) -> Reply {
+        match answer {
+            Ok(()) => Reply {
+                number: 0,
+                cells: 0,
+                at: 0,
+            },
+            Err(refusal) => Reply::from(refusal),
+        }
+    }
+}
+
+impl From<Result<Written, Refusal>> for Reply {
+    ghost from_gives = { λ answer reply. reply ≡ translation_reply answer };
+
+    #[tactic(auto, unfolding(crate::specs::Answers::translation_reply, crate::specs::Answers::refusal_reply))]
+    fn from(answer: Result<Written, Refusal>) -> Reply {
+        match answer {
+            Ok(written) => Reply {
+                number: 0,
+                cells: written.cells,
+                at: written.length as u64,
+            },
+            Err(refusal) => Reply::from(refusal),
+        }
+    }
+}
+
+// Of two answers the refusal with the lower number; of two with the same number the first.
+pub fn or_lower(first: Result<(), Refusal>, second: Result<(), Refusal>) -> Result<(), Refusal>
+    ensures { result ≡ lower_refusal first second }
+{
+    match (first, second) {
+        (Ok(()), _) => second,
+        (Err(one), Err(other)) if other.rule.number() < one.rule.number() => second,
+        _ => first,
+    }
+}
+
+// The refusal by this rule, at this place, of what breaks it.
+pub fn refuse_if(broken: bool, rule: Rule, place: usize) -> Result<(), Refusal>
+    ensures { result ≡ refused_at rule (found_if broken place) acceptance }
+{
+    if broken {
+        Err(Refusal { rule, place })
+    } else {
+        Ok(())
     }
 }

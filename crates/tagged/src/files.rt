@@ -1,41 +1,31 @@
 // Refusal 1: a file's length, and its outer field's.
 ghost use Rattle.std.specs.Prelude.{◌≡◌};
-ghost use Rattle.tagged.specs.Limits.{longest_module, longest_netlist};
-ghost use Rattle.tagged.specs.Files.{file_answer, outer_answer};
+ghost use Rattle.tagged.specs.Files.{file_answer, outer_fits};
 
-use crate::answers::{Answer, Rule};
-use crate::bytes::{byte_at, number_of_two};
-use crate::limits::{ModuleFile, ModuleFileMade, NetlistFile, NetlistFileMade};
+use crate::answers::{Refusal, Rule};
+use crate::bytes::{get_or, number_of_two};
+use crate::limits::SHORTEST_FILE;
+use words::limits::Limited;
 
-// Refusal 1 of a module file, or acceptance.
-pub fn module_file(file: &[u8]) -> Answer
-    ensures { result ≡ file_answer longest_module file.now }
+// Refusal 1 of a file that may have at most `LONGEST` bytes, or acceptance.
+#[tactic(auto, unfolding(crate::specs::Files::file_answer, crate::specs::Files::outer_answer))]
+pub fn file_answer<const LONGEST: usize>(file: &[u8]) -> Result<(), Refusal>
+    ensures { result ≡ file_answer LONGEST file.now }
 {
-    match ModuleFile::new(file.len()) {
-        ModuleFileMade::Good(_) => outer_length(file),
-        ModuleFileMade::Refused => Answer::Refused(Rule::FileLength, 0),
-    }
-}
-
-// Refusal 1 of a netlist file, or acceptance.
-pub fn netlist_file(file: &[u8]) -> Answer
-    ensures { result ≡ file_answer longest_netlist file.now }
-{
-    match NetlistFile::new(file.len()) {
-        NetlistFileMade::Good(_) => outer_length(file),
-        NetlistFileMade::Refused => Answer::Refused(Rule::FileLength, 0),
+    if Limited::<SHORTEST_FILE, LONGEST>::new(file.len()).is_some() && outer_fits(file) {
+        Ok(())
+    } else {
+        Err(Refusal {
+            rule: Rule::FileLength,
+            place: 0,
+        })
     }
 }
 
 // The outer length has to be the rest of the file.
-fn outer_length(file: &[u8]) -> Answer
-    ensures { result ≡ outer_answer file.now }
+#[tactic(auto, unfolding(crate::specs::Bytes::number_of_two))]
+fn outer_fits(file: &[u8]) -> bool
+    ensures { result ≡ outer_fits file.now }
 {
-    let high = byte_at(file, 1);
-    let low = byte_at(file, 2);
-    if number_of_two(high, low) + 3 == file.len() {
-        Answer::Accepted
-    } else {
-        Answer::Refused(Rule::FileLength, 0)
-    }
+    number_of_two(get_or(file, 1, 0), get_or(file, 2, 0)) + 3 == file.len()
 }

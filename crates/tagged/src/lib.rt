@@ -9,5 +9,7 @@ pub mod files;
 pub mod limits;
 pub mod names;
 pub mod parts;
+pub mod payload;
 pub mod rows;
 pub mod sorts;
+pub mod walk;

@@ -3,44 +3,39 @@ ghost use Rattle.std.specs.Prelude.{◌≡◌, ◌+◌, ◌^◌, ◌≤◌, leng
 ghost use Rattle.tagged.specs.Parts.{name_in};
 
 use crate::bytes::from;
-use crate::declarations::{Next, fixed_bytes, next_declaration, payload_at};
+use crate::declarations::fixed_bytes;
+use crate::sorts::Sort;
+use crate::walk::fields_of;
 
 // From a first byte to the byte past the last.
-#[derive(Clone, Copy)]
+#[derive(Clone, Copy, Debug, PartialEq, Eq, Hash)]
 pub struct Part {
     pub start: usize,
     pub end: usize,
 }
 
-// The part of a name, by its variable's number, in a list of declarations whose first byte stands at `base`; without such a variable, nothing at the end of the list.
-#[tactic(auto, using(crate::proofs::DeclarationWalks::here_within))]
+// The part of a name, by its variable's number, in a list of declarations whose first byte stands at `base`; without such a variable, nothing at the
+// end of the list.
+#[tactic(auto, using(crate::proofs::DeclarationWalks::declared_fields, crate::proofs::DeclarationWalks::declared_here, crate::proofs::DeclarationWalks::declared_end, crate::proofs::DeclarationWalks::declared_none, crate::proofs::DeclarationLaws::name_in_lem, crate::proofs::DeclarationLaws::not_declaration), unfolding(crate::specs::Parts::name_in, crate::specs::Parts::first_name))]
 pub fn name_in(list: &[u8], base: usize, number: usize) -> Part
     requires { base + length list.now ≤ 2 ^ 40 }
     ensures { result ≡ name_in base number list.now }
 {
-    let mut at: usize = 0;
-    let mut left: usize = number;
-    loop {
-        match next_declaration(&list[at..]) {
-            Next::Ended => {
-                return Part {
-                    start: base + list.len(),
-                    end: base + list.len(),
-                };
-            }
-            Next::Declaration(sort, size) => {
-                if left == 0 {
-                    let end = base + at + 3 + size;
-                    let fixed = fixed_bytes(sort);
-                    let name = from(payload_at(list, at, size), fixed);
-                    return Part {
-                        start: end - name.len(),
-                        end,
-                    };
-                }
-                at = at + 3 + size;
-                left = left - 1;
-            }
+    let mut left = number;
+    for field in fields_of(list, base) {
+        let Sort::Declaration(sort) = field.sort else {
+            break;
+        };
+        if left == 0 {
+            let end = field.place + 3 + field.payload.len();
+            let name = from(field.payload, fixed_bytes(sort));
+            return Part {
+                start: end - name.len(),
+                end,
+            };
         }
+        left -= 1;
     }
+    let end = base + list.len();
+    Part { start: end, end }
 }

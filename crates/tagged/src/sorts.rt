@@ -5,21 +5,21 @@ ghost use Rattle.tagged.specs.Sorts.{sort_of, declaration_sort, statement_sort, 
 use words::{OneOperand, TwoOperand};
 
 // Declarations, 02 and 03.
-#[derive(Clone, Copy)]
+#[derive(Clone, Copy, Debug, PartialEq, Eq, Hash)]
 pub enum DeclarationSort {
     Input,
     Register,
 }
 
 // How an assignment changes its variable.
-#[derive(Clone, Copy)]
+#[derive(Clone, Copy, Debug, PartialEq, Eq, Hash)]
 pub enum Kind {
     Blocking,
     NonBlocking,
 }
 
 // Statements, 10 to 15.
-#[derive(Clone, Copy)]
+#[derive(Clone, Copy, Debug, PartialEq, Eq, Hash)]
 pub enum StatementSort {
     Assign(Kind),
     AssignBit(Kind),
@@ -28,7 +28,7 @@ pub enum StatementSort {
 }
 
 // Expressions, 20 to 2A.
-#[derive(Clone, Copy)]
+#[derive(Clone, Copy, Debug, PartialEq, Eq, Hash)]
 pub enum ExpressionSort {
     Constant,
     Variable,
@@ -39,7 +39,7 @@ pub enum ExpressionSort {
 }
 
 // Cells, 30 to 3A.
-#[derive(Clone, Copy)]
+#[derive(Clone, Copy, Debug, PartialEq, Eq, Hash)]
 pub enum CellSort {
     One(OneOperand),
     Two(TwoOperand),
@@ -49,7 +49,7 @@ pub enum CellSort {
     ChosenBit,
 }
 
-#[derive(Clone, Copy)]
+#[derive(Clone, Copy, Debug, PartialEq, Eq, Hash)]
 pub enum Sort {
     Module,
     Declaration(DeclarationSort),
@@ -85,6 +85,7 @@ pub fn sort_of(tag: u8) -> Sort
 }
 
 // Which declaration, within 02 and 03.
+#[tactic(auto, unfolding(crate::specs::Sorts::declaration_sort))]
 fn declaration_sort(tag: u8) -> DeclarationSort
     ensures { result ≡ declaration_sort tag }
 {
@@ -95,6 +96,7 @@ fn declaration_sort(tag: u8) -> DeclarationSort
 }
 
 // Which statement, within 10 to 15.
+#[tactic(auto, unfolding(crate::specs::Sorts::statement_sort))]
 fn statement_sort(tag: u8) -> StatementSort
     ensures { result ≡ statement_sort tag }
 {
@@ -109,6 +111,7 @@ fn statement_sort(tag: u8) -> StatementSort
 }
 
 // Which expression, within 20 to 2A.
+#[tactic(auto, unfolding(crate::specs::Sorts::expression_sort))]
 fn expression_sort(tag: u8) -> ExpressionSort
     ensures { result ≡ expression_sort tag }
 {
@@ -128,6 +131,7 @@ fn expression_sort(tag: u8) -> ExpressionSort
 }
 
 // Which cell, within 30 to 3A.
+#[tactic(auto, unfolding(crate::specs::Sorts::cell_sort))]
 fn cell_sort(tag: u8) -> CellSort
     ensures { result ≡ cell_sort tag }
 {

@@ -12,8 +12,7 @@ use Rattle.tagged.specs.declared.sorts.Kind.{Kind}
 use Rattle.netlist.specs.Lists.{operand_width}
 use Rattle.netlist.specs.declared.Operand.{Operand}
 use Rattle.netlist.specs.declared.Cell.{Cell}
-use Rattle.verilog.specs.Tree.{Expression, constant, variable, fixed_bit, chosen_bit, one, two}
-use Rattle.verilog.specs.Tree.{Statement, assign, assign_bit, if_else, case, Block, end, ◌then◌, Items, default, item}
+use Rattle.verilog.specs.Tree.{Expression, constant, variable, fixed_bit, chosen_bit, one, two, Statement, assign, assign_bit, if_else, case, Block, end, ◌then◌, Items, default, item}
 use Rattle.verilog.specs.Form.{expression_bytes, statement_bytes, block_payload, items_bytes, process_bytes}
 use Rattle.translate.specs.Tables.{Tables, held_operand, replaced, same_operand, Merged, kept, muxed, merge, Translated, merge_tables}
 use Rattle.translate.specs.Translation.{Emitted, translate_expression, after, joined, translate_statement, translate_block, translate_items, translate_all}

@@ -7,11 +7,11 @@ use mathlib.Core.List.{List, map, Memᴰ}
 use Prim.Native.Nat.{ℕ, ◌≤◌}
 use lib.ListN.{length}
 use Rattle.words.specs.Values.{got}
+use Rattle.tagged.specs.Answers.{acceptance}
 use Rattle.tagged.specs.Limits.{most_cells}
 use Rattle.tagged.specs.Declarations.{Declaration, width_of}
 use Rattle.tagged.specs.Rows.{all_fit}
 use Rattle.tagged.specs.Cycles.{inputs_fit, cycles_by}
-use Rattle.tagged.specs.declared.answers.Answer.TheVariants as Answer
 use Rattle.netlist.specs.Answer.{netlist_answer}
 use Rattle.netlist.specs.Reading.{netlist_in}
 use Rattle.netlist.specs.Cycle.{netlist_cycle}
@@ -52,13 +52,13 @@ pub record Agreement (file row : List ℕ) (inputs : List (List ℕ)) : Type 0 w
 
 pub record Demand3 (file : List ℕ) : Type 0 where
   -- the netlist's bytes are accepted, and read back as the lists of the translation
-  pub accepted : netlist_answer (translated_bytes file) ≡ Answer.Accepted
+  pub accepted : netlist_answer (translated_bytes file) ≡ acceptance
   pub lists : netlist_in (translated_bytes file) ≡ netlist_of_file file
   -- every start, every fitting input, every number of cycles
   pub cycles : (row : List ℕ) → all_fit (widths file) row ≡ true → (inputs : List (List ℕ)) →
       ((i : List ℕ) → Memᴰ i inputs → inputs_fit (declared file) i ≡ true) → Agreement file row inputs
 
-pub demand_3 : (file : List ℕ) → module_answer file ≡ Answer.Accepted → cell_count file ≤ most_cells → Demand3 file
+pub demand_3 : (file : List ℕ) → module_answer file ≡ acceptance → cell_count file ≤ most_cells → Demand3 file
 demand_3 file accepted small = record {
   accepted = accepted_bytes (netlist_of_file file) unrefused;
   lists = back;

@@ -1,5 +1,6 @@
 -- No netlist that translation gives is longer than 25,219 bytes, if rules 4, 5 and 12 hold: rule 4 bounds each declaration by 32 bytes, rule 5 their number by 64;
 -- each cell has at most 22 bytes, each drive 10. By counting.
+use Rattle.std.specs.Prelude.{None}
 use mathlib.Core.Path.{◌≡◌}
 use Prim.Native.Nat.{ℕ, ◌≤◌}
 use native.Mathlib.Omega.{arith}
@@ -9,7 +10,6 @@ use Rattle.tagged.specs.Sorts.{tag_of}
 use Rattle.tagged.specs.Declarations.{declaration_broken}
 use Rattle.tagged.specs.declared.sorts.Sort.TheVariants as Sort
 use Rattle.tagged.specs.declared.answers.Rule.TheVariants as Rule
-use Rattle.tagged.specs.declared.answers.Found.TheVariants as Found
 use Rattle.tagged.proofs.ListBytes.{field_length}
 use Rattle.netlist.specs.Lists.{Netlist}
 use Rattle.netlist.specs.Form.{netlist_payload, netlist_bytes}
@@ -21,8 +21,8 @@ use Rattle.tagged.proofs.DeclarationSizes.{variables_few, declarations_length}
 use Rattle.netlist.proofs.RulesFit.{payload_few, registers_count}
 use Rattle.translate.proofs.DrivesPass.{drives_length}
 
-pub largest : (m : Module) (base : ℕ) → declaration_broken Rule.Name base m.declarations ≡ Found.Nowhere →
-    declaration_broken Rule.Count base m.declarations ≡ Found.Nowhere → length (netlist_of m).cells ≤ most_cells → length (netlist_bytes (netlist_of m)) ≤ largest_netlist
+pub largest : (m : Module) (base : ℕ) → declaration_broken Rule.Name base m.declarations ≡ None →
+    declaration_broken Rule.Count base m.declarations ≡ None → length (netlist_of m).cells ≤ most_cells → length (netlist_bytes (netlist_of m)) ≤ largest_netlist
 unfolding netlist_bytes netlist_of
 largest m base name count few =
     let n : Netlist = netlist_of m in

@@ -1,4 +1,5 @@
 -- The netlist of a typed module whose declarations break no rule is accepted, if it has at most 1,024 cells: every rule that is looked for has no place.
+use Rattle.std.specs.Prelude.{None}
 use mathlib.Core.Path.{◌≡◌, refl}
 use mathlib.Core.Bool.{false}
 use mathlib.Core.List.{List, []}
@@ -10,8 +11,7 @@ use Rattle.tagged.specs.Limits.{most_cells}
 use Rattle.tagged.specs.Fields.{placed_by}
 use Rattle.tagged.specs.Declarations.{Declaration, declaration_bytes, declaration_breaks, declaration_broken}
 use Rattle.tagged.specs.declared.answers.Rule.{Rule}
-use Rattle.tagged.specs.declared.answers.Answer.{Answer}
-use Rattle.tagged.specs.declared.answers.Found.{Found}
+use Rattle.tagged.specs.Answers.{acceptance}
 use Rattle.netlist.specs.Lists.{Netlist}
 use Rattle.netlist.specs.Form.{cell_bytes, drive_bytes}
 use Rattle.netlist.specs.Rules.{cell_breaks, drive_breaks, registers_from, whole_broken, cells_base, drives_base}
@@ -43,16 +43,16 @@ pub record NetlistPasses (n : Netlist) : Type 0 where
 module _ (base : ℕ) (n : Netlist) (d : DeclarationsPass base n.declarations) (p : NetlistPasses n) where
   -- a rule that each cell passes, or that no cell breaks; and so for drives and declarations
   cells_nowhere : (rule : Rule) → ((earlier : List Cell) (c : Cell) → CellPasses n.declarations earlier c → cell_breaks rule n.declarations earlier c ≡ false) →
-      cell_broken rule base n ≡ Found.Nowhere
+      cell_broken rule base n ≡ None
   cells_nowhere rule h = each_nowhere (cell_breaks rule n.declarations) cell_bytes h (cells_base base n) p.cells
 
   drives_nowhere : (rule : Rule) →
       ((earlier : List Drive) (c : Drive) → DrivePasses n.declarations n.cells earlier c → drive_breaks rule n.declarations n.cells earlier c ≡ false) →
-      drive_broken rule base n ≡ Found.Nowhere
+      drive_broken rule base n ≡ None
   drives_nowhere rule h = each_nowhere (drive_breaks rule n.declarations n.cells) drive_bytes h (drives_base base n) p.drives
 
   declarations_nowhere : (rule : Rule) → ((earlier : List Declaration) (c : Declaration) → declaration_breaks rule earlier c ≡ false) →
-      declaration_broken rule base n.declarations ≡ Found.Nowhere
+      declaration_broken rule base n.declarations ≡ None
   declarations_nowhere rule h = passes_nowhere (declaration_breaks rule) [] (placed_by declaration_bytes base n.declarations) (λ before p c s. h before c)
 
   -- so every rule that is looked for passes
@@ -103,7 +103,7 @@ module _ (base : ℕ) (n : Netlist) (d : DeclarationsPass base n.declarations) (
     };
   }
 
-  pub passes_accepted : lists_answer base n ≡ Answer.Accepted
+  pub passes_accepted : lists_answer base n ≡ acceptance
   passes_accepted = rules_accepted rules_pass
 
 -- what translation gives passes
@@ -118,15 +118,15 @@ translation_passes m p few =
       few = few;
     }
 
-pub netlist_accepted : (m : Module) → TypedModule m → declaration_broken Rule.Value 3 m.declarations ≡ Found.Nowhere →
-    declaration_broken Rule.Name 3 m.declarations ≡ Found.Nowhere → declaration_broken Rule.Count 3 m.declarations ≡ Found.Nowhere →
-    length (netlist_of m).cells ≤ most_cells → lists_answer 3 (netlist_of m) ≡ Answer.Accepted
+pub netlist_accepted : (m : Module) → TypedModule m → declaration_broken Rule.Value 3 m.declarations ≡ None →
+    declaration_broken Rule.Name 3 m.declarations ≡ None → declaration_broken Rule.Count 3 m.declarations ≡ None →
+    length (netlist_of m).cells ≤ most_cells → lists_answer 3 (netlist_of m) ≡ acceptance
 unfolding netlist_of
 netlist_accepted m p v a c few = passes_accepted 3 (netlist_of m) (record { value = v; name = a; count = c }) (translation_passes m p few)
 
 -- so for a file whose module is accepted and typed
-pub file_netlist_accepted : (file : List ℕ) → module_answer file ≡ Answer.Accepted → TypedModule (module_in file) → cell_count file ≤ most_cells →
-    lists_answer 3 (netlist_of_file file) ≡ Answer.Accepted
+pub file_netlist_accepted : (file : List ℕ) → module_answer file ≡ acceptance → TypedModule (module_in file) → cell_count file ≤ most_cells →
+    lists_answer 3 (netlist_of_file file) ≡ acceptance
 file_netlist_accepted file e p few =
     let d = accepted_declarations file e in
     netlist_accepted (module_in file) p d.value d.name d.count few

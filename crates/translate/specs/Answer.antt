@@ -1,9 +1,8 @@
 -- Translating uses refusals 1 to 13; on acceptance it returns length and cell count, and writes that many bytes.
-use Rattle.std.specs.Prelude.{cond, List, ◌++◌, ℕ, ltb, length, drop}
+use Rattle.tagged.specs.Answers.{written, refused, Answer, Translation}
+use Rattle.std.specs.Prelude.{Ok, Err, cond, List, ◌++◌, ℕ, ltb, length, drop}
 use Rattle.tagged.specs.Limits.{most_cells}
 use Rattle.tagged.specs.declared.answers.Rule.TheVariants as Rule
-use Rattle.tagged.specs.declared.answers.Answer.{Answer}
-use Rattle.tagged.specs.declared.answers.Translation.{Translation}
 use Rattle.netlist.specs.Lists.{Netlist}
 use Rattle.netlist.specs.Form.{netlist_bytes}
 use Rattle.verilog.specs.Reading.{module_in}
@@ -23,10 +22,10 @@ cell_count file = length (netlist_of_file file).cells
 
 -- after refusals 1 to 11: 12, over 1,024 cells; then 13, the output buffer shorter than the netlist; both at place 0
 abbrev pub after_check : Answer → ℕ → ℕ → ℕ → Translation
-after_check (Answer.Refused rule place) cells size room = Translation.Refused rule place
-after_check Answer.Accepted cells size room =
-    cond (ltb most_cells cells) (Translation.Refused Rule.Cells 0)
-    (cond (ltb room size) (Translation.Refused Rule.Buffer 0) (Translation.Written size cells))
+after_check (Err e) cells size room = Err e
+after_check (Ok _) cells size room =
+    cond (ltb most_cells cells) (Err (refused Rule.Cells 0))
+    (cond (ltb room size) (Err (refused Rule.Buffer 0)) (Ok (written size cells)))
 
 -- what translating a file into a buffer of `room` bytes answers
 unfoldable pub translate_answer : List ℕ → ℕ → Translation
@@ -34,8 +33,8 @@ translate_answer file room = after_check (module_answer file) (cell_count file) 
 
 -- what the buffer holds then: on acceptance the netlist, and beyond it the bytes that were there; on refusal what was there
 abbrev pub buffer_after : Translation → List ℕ → List ℕ → List ℕ
-buffer_after (Translation.Written size cells) bytes buffer = bytes ++ drop size buffer
-buffer_after (Translation.Refused rule place) bytes buffer = buffer
+buffer_after (Ok e) bytes buffer = bytes ++ drop e.length buffer
+buffer_after (Err e) bytes buffer = buffer
 
 unfoldable pub translate_buffer : List ℕ → List ℕ → List ℕ
 translate_buffer file buffer = buffer_after (translate_answer file (length buffer)) (translated_bytes file) buffer

@@ -6,66 +6,66 @@ use mathlib.Core.Logic.{◌⊎◌, inl, inr}
 use mathlib.Core.List.{List, [], ◌∷◌}
 use Prim.Native.Nat.{ℕ, zero, suc, ◌+◌, ◌≤◌}
 use native.Mathlib.Omega.{arith}
-use lib.Dec.{eqb}
-use lib.ListN.{length, get_or, set}
-use borrow.Author.Tests.{eqb-true, eqb-false, eq-eqb}
+use lib.ListN.{length, set}
 use Rattle.netlist.specs.declared.Operand.{Operand}
-use Rattle.translate_blocks.specs.Words.{Written, same_word, mux_word, merge_words}
+use Rattle.translate.specs.Tables.{operand_at, same_operand, Merged, kept, muxed, merge}
+use Rattle.translate.proofs.Merging.{same_operand_lem}
 use Rattle.translate_blocks.specs.Log.{unlike, changes}
+use Rattle.translate_blocks.proofs.SameOperands.{operands_same, operands_other}
 
 -- one entry
 
-unlike_one : (x y : ℕ) → unlike x y ≤ 1
-unlike_one x y = go (eqb x y)
+unlike_one : (x y : Operand) → unlike x y ≤ 1
+unlike_one x y = go (same_operand x y)
   where
     go : (t : Bool) → cond t 0 1 ≤ 1
     go true = omega arith
     go false = omega arith
 
 -- unless they differ they are the same
-unlike_same : (x y : ℕ) → (unlike x y ≡ 1) ⊎ (x ≡ y)
-unlike_same x y = go (eqb x y) refl
+unlike_same : (x y : Operand) → (unlike x y ≡ 1) ⊎ (x ≡ y)
+unlike_same x y = go (same_operand x y) refl
   where
-    go : (t : Bool) → eqb x y ≡ t → (◌≡◌ {A = ℕ} (cond t 0 1) 1) ⊎ (x ≡ y)
-    go true e = inr (eqb-true x y e)
+    go : (t : Bool) → same_operand x y ≡ t → (◌≡◌ {A = ℕ} (cond t 0 1) 1) ⊎ (x ≡ y)
+    go true e = inr (same_operand_lem x y e)
     go false e = inl refl
 
-unlike_twice : (x y z : ℕ) → unlike x z ≤ unlike x y + unlike y z
+unlike_twice : (x y z : Operand) → unlike x z ≤ unlike x y + unlike y z
 unlike_twice x y z = go (unlike_same x y)
   where
     go : (unlike x y ≡ 1) ⊎ (x ≡ y) → unlike x z ≤ unlike x y + unlike y z
     go (inl e) = omega (arith, e, unlike_one x z)
-    go (inr e) = omega (arith, ap (λ (w : ℕ). unlike w z) e)
+    go (inr e) = omega (arith, ap (λ (w : Operand). unlike w z) e)
 
 -- an entry cannot be the same as two that differ
-unlike_either : (x y z : ℕ) → eqb y z ≡ false → 1 ≤ unlike x y + unlike x z
+unlike_either : (x y z : Operand) → same_operand y z ≡ false → 1 ≤ unlike x y + unlike x z
 unlike_either x y z differ = go (unlike_same x y) (unlike_same x z)
   where
     go : (unlike x y ≡ 1) ⊎ (x ≡ y) → (unlike x z ≡ 1) ⊎ (x ≡ z) → 1 ≤ unlike x y + unlike x z
     go (inl e) q = omega (arith, e)
     go (inr e) (inl i) = omega (arith, i)
-    go (inr e) (inr i) = absurd (eqb-false y z differ (sym e ∙ i))
+    go (inr e) (inr i) = absurd (operands_other y z differ (sym e ∙ i))
 
 -- whole tables
 
-pub changes_none : (a : List ℕ) → changes a a ≡ 0
+pub changes_none : (a : List Operand) → changes a a ≡ 0
 unfolding changes
 changes_none [] = refl
-changes_none (x ∷ a) = rw (eq-eqb x x refl) (omega (arith, changes_none a))
+changes_none (x ∷ a) = rw (operands_same x x refl) (omega (arith, changes_none a))
 
-pub changes_most : (a b : List ℕ) → changes a b ≤ length a
+pub changes_most : (a b : List Operand) → changes a b ≤ length a
 unfolding changes
 changes_most [] b = omega arith
 changes_most (x ∷ a) [] = omega arith
 changes_most (x ∷ a) (y ∷ b) = omega (arith, unlike_one x y, changes_most a b)
 
-pub changes-set : (a : List ℕ) (slot word : ℕ) → changes a (set a slot word) ≤ 1
+pub changes-set : (a : List Operand) (slot : ℕ) (operand : Operand) → changes a (set a slot operand) ≤ 1
 unfolding changes
-changes-set [] slot word = omega arith
-changes-set (x ∷ a) zero word = omega (arith, unlike_one x word, changes_none a)
-changes-set (x ∷ a) (suc slot) word = rw (eq-eqb x x refl) (omega (arith, changes-set a slot word))
+changes-set [] slot operand = omega arith
+changes-set (x ∷ a) zero operand = omega (arith, unlike_one x operand, changes_none a)
+changes-set (x ∷ a) (suc slot) operand = rw (operands_same x x refl) (omega (arith, changes-set a slot operand))
 
-pub changes_twice : (a b c : List ℕ) → length b ≡ length a → changes a c ≤ changes a b + changes b c
+pub changes_twice : (a b c : List Operand) → length b ≡ length a → changes a c ≤ changes a b + changes b c
 unfolding changes
 changes_twice [] b c h = omega arith
 changes_twice (x ∷ a) [] c h = absurd (omega arith)
@@ -75,43 +75,43 @@ changes_twice (x ∷ a) (y ∷ b) (z ∷ c) h = omega (arith, unlike_twice x y z
 -- a merge
 
 module _ (condition : Operand) where
-  pub merged_length : (n : ℕ) (a b : List ℕ) → length b ≡ length a → length (merge_words condition n a b).table ≡ length a
-  unfolding merge_words
+  pub merged_length : (n : ℕ) (a b : List Operand) → length b ≡ length a → length (merge condition n a b).operands ≡ length a
+  unfolding merge
   merged_length n [] b h = refl
   merged_length n (x ∷ a) [] h = absurd (omega arith)
-  merged_length n (x ∷ a) (y ∷ b) h = go (eqb x y) (merged_length n a b (omega arith)) (merged_length (n + 1) a b (omega arith))
+  merged_length n (x ∷ a) (y ∷ b) h = go (same_operand x y) (merged_length n a b (omega arith)) (merged_length (n + 1) a b (omega arith))
     where
-      go : (t : Bool) → length (merge_words condition n a b).table ≡ length a → length (merge_words condition (n + 1) a b).table ≡ length a →
-          length (cond t (same_word x (merge_words condition n a b)) (mux_word condition n x y (merge_words condition (n + 1) a b))).table ≡ suc (length a)
+      go : (t : Bool) → length (merge condition n a b).operands ≡ length a → length (merge condition (n + 1) a b).operands ≡ length a →
+          length (cond t (kept x (merge condition n a b)) (muxed condition n x y (merge condition (n + 1) a b))).operands ≡ suc (length a)
       go true same other = ap suc same
       go false same other = ap suc other
 
   -- a cell for each entry at most
-  pub merged_few : (n : ℕ) (a b : List ℕ) → length (merge_words condition n a b).cells ≤ length a
-  unfolding merge_words
+  pub merged_few : (n : ℕ) (a b : List Operand) → length (merge condition n a b).cells ≤ length a
+  unfolding merge
   merged_few n [] b = omega arith
   merged_few n (x ∷ a) [] = omega arith
-  merged_few n (x ∷ a) (y ∷ b) = go (eqb x y) (merged_few n a b) (merged_few (n + 1) a b)
+  merged_few n (x ∷ a) (y ∷ b) = go (same_operand x y) (merged_few n a b) (merged_few (n + 1) a b)
     where
-      go : (t : Bool) → length (merge_words condition n a b).cells ≤ length a → length (merge_words condition (n + 1) a b).cells ≤ length a →
-          length (cond t (same_word x (merge_words condition n a b)) (mux_word condition n x y (merge_words condition (n + 1) a b))).cells ≤ suc (length a)
+      go : (t : Bool) → length (merge condition n a b).cells ≤ length a → length (merge condition (n + 1) a b).cells ≤ length a →
+          length (cond t (kept x (merge condition n a b)) (muxed condition n x y (merge condition (n + 1) a b))).cells ≤ suc (length a)
       go true same other = omega (arith, same)
       go false same other = omega (arith, other)
 
-  pub merged_changes : (n : ℕ) (entry a b : List ℕ) → length a ≡ length entry → length b ≡ length entry →
-      changes entry (merge_words condition n a b).table ≤ changes entry a + changes entry b
-  unfolding merge_words changes
+  pub merged_changes : (n : ℕ) (entry a b : List Operand) → length a ≡ length entry → length b ≡ length entry →
+      changes entry (merge condition n a b).operands ≤ changes entry a + changes entry b
+  unfolding merge changes
   merged_changes n [] a b h i = omega arith
   merged_changes n (x ∷ entry) [] b h i = absurd (omega arith)
   merged_changes n (x ∷ entry) (y ∷ a) [] h i = absurd (omega arith)
   merged_changes n (x ∷ entry) (y ∷ a) (z ∷ b) h i =
-      go (eqb y z) refl (merged_changes n entry a b (omega arith) (omega arith)) (merged_changes (n + 1) entry a b (omega arith) (omega arith))
+      go (same_operand y z) refl (merged_changes n entry a b (omega arith) (omega arith)) (merged_changes (n + 1) entry a b (omega arith) (omega arith))
     where
-      go : (t : Bool) → eqb y z ≡ t → changes entry (merge_words condition n a b).table ≤ changes entry a + changes entry b →
-          changes entry (merge_words condition (n + 1) a b).table ≤ changes entry a + changes entry b →
-          changes (x ∷ entry) (cond t (same_word y (merge_words condition n a b)) (mux_word condition n y z (merge_words condition (n + 1) a b))).table ≤
+      go : (t : Bool) → same_operand y z ≡ t → changes entry (merge condition n a b).operands ≤ changes entry a + changes entry b →
+          changes entry (merge condition (n + 1) a b).operands ≤ changes entry a + changes entry b →
+          changes (x ∷ entry) (cond t (kept y (merge condition n a b)) (muxed condition n y z (merge condition (n + 1) a b))).operands ≤
           (unlike x y + changes entry a) + (unlike x z + changes entry b)
       go true e same other = omega (arith, same)
       go false e same other =
-          let m : Written = mux_word condition n y z (merge_words condition (n + 1) a b) in
-          omega (arith, other, unlike_either x y z e, unlike_one x (get_or m.table 0 0))
+          let m : Merged = muxed condition n y z (merge condition (n + 1) a b) in
+          omega (arith, other, unlike_either x y z e, unlike_one x (operand_at m.operands 0))

@@ -1,144 +1,131 @@
--- One turn of the forward loop over the items of a case, and its end: what is done, in front of what the rest of the fields gives, is what the whole list gives; the
--- marks stand in the log, and the room that is left is for the rest. By the laws of the loop's turns. Assumes nothing.
+-- One turn of the forward loop over the items of a case, and its end: what is done, in front of what the fields that are left give, is what the whole list gives,
+-- and the room that is left is for them. By the first field that is left. Assumes nothing.
 use mathlib.Core.Path.{◌≡◌, refl, sym, ap, ap₂, ◌∙◌, subst}
-use mathlib.Core.List.{List, [], ◌∷◌, ◌++◌}
-use Prim.Native.Nat.{ℕ, ◌+◌, ◌-◌, ◌*◌, ◌^◌, ◌≤◌}
+use mathlib.Core.List.{List, [], ◌∷◌, append_assoc, append-nil}
+use Prim.Native.Nat.{ℕ, ◌+◌, ◌*◌, ◌^◌, ◌≤◌}
 use native.Mathlib.Omega.{arith}
-use lib.ListN.{length, take, drop, length-take, length-append}
+use lib.ListN.{length, length-append}
 use Rattle.words.specs.declared.TwoOperand.TheVariants as two_operand
-use Rattle.tagged.specs.Fields.{Placed, Field, open_of, fields_at}
+use Rattle.tagged.specs.Fields.{Placed, fields_at}
+use Rattle.tagged.specs.Fields as fields
+use Rattle.tagged.specs.Walk.{placed, fields_left}
+use Rattle.tagged.specs.declared.walk.Field.{Field}
+use Rattle.tagged.specs.declared.walk.Fields.{Fields}
 use Rattle.tagged.specs.declared.sorts.Sort.{Sort}
-use Rattle.tagged.specs.declared.fields.Opened.{Opened}
-use Rattle.tagged.proofs.FieldLists.{field_within}
 use Rattle.netlist.specs.declared.Operand.{Operand}
 use Rattle.netlist.specs.declared.Cell.{Cell}
-use Rattle.translate_blocks.specs.Words.{Written}
-use Rattle.translate_blocks.specs.Writing.{Emits, item_operand, write_item, write_block, LogKept, Translates, Room}
-use Rattle.translate_blocks.specs.Log.{changes, changes_of, Mark, log_entries, Forward, onward, equal_cell, mark_of, forward_items, backward_items, Filed, Forwards, Marks}
+use Rattle.verilog.proofs.FormLaws.{not_branch}
+use Rattle.translate_blocks.specs.declared.emit.Emitter.{Emitter}
+use Rattle.translate_blocks.specs.declared.case_log.Log.{Log}
+use Rattle.translate_blocks.specs.Emitting.{Emits}
+use Rattle.translate_blocks.specs.Writing.{Written, untouched, item_operand, write_item, write_block}
+use Rattle.translate_blocks.specs.Log.{changes, changes_of, Mark, item_log, log_of, Forward, onward, arrived, mark_of, forward_item, forward_items, backward_items}
+use Rattle.translate_blocks.specs.Working.{Work, Grown, Translates, Forwards, Filed, Room}
 use Rattle.translate_blocks.proofs.SortBranches.{branch_holds}
-use Rattle.translate_blocks.proofs.LogLaws.{filed_none}
-use Rattle.translate_blocks.proofs.EmitLaws.{emits_none, emits_then, emits_as, emits_past}
 use Rattle.translate_blocks.proofs.FieldSizes.{fields_within}
 use Rattle.translate_blocks.proofs.Bounds.{Bounded, items_bounded, item_bounded, block_bounded}
-use Rattle.translate_blocks.proofs.CaseLoops.{changes_counted, mark_small, case_by_loops, case_log_lem}
-use Rattle.translate_blocks.proofs.CaseTurns.{forward_none, forward_other, forward_block, forward_item, log_more}
-use Rattle.translate_blocks.proofs.WritingSteps.{log_same, log_then, log_below, filed_stays, room_less, room_emitted}
+use Rattle.translate_blocks.proofs.CaseLoops.{mark_small, case_by_loops, case_log_lem}
+use Rattle.translate_blocks.proofs.EmitLaws.{emits_then, emits_as, emits_past}
+use Rattle.translate_blocks.proofs.LogLaws.{grown_then, grown_as, filed_grown}
+use Rattle.translate_blocks.proofs.ListSteps.{walk_begun, room_begun}
+use Rattle.translate_blocks.proofs.WorkLaws.{translates_none, translates_as, forwards_as, forwards_then, forwards_last, room_less}
 
--- what the fields of a list give, from a place and a number of cells
-abbrev forward : (count d : ℕ) → Operand → (entry list : List ℕ) → (base n : ℕ) → Forward
-forward count d selector entry list base n = forward_items (write_item count d) (write_block count d) selector (fields_at base list) entry n
+onward_twice : (f g h : Forward) → onward (onward f g) h ≡ onward f (onward g h)
+onward_twice f g h =
+    ap₂ (λ (cells : List Cell) (marks : List Mark). record { cells = cells; marks = marks; table = h.table }) (append_assoc f.cells g.cells h.cells)
+    (append_assoc f.marks g.marks h.marks)
 
-module _ (count d : ℕ) (selector : Operand) (l entry out₀ : List ℕ) (at₀ n₀ : ℕ) (slots₀ words₀ : List ℕ) (bottom : ℕ) where
-  -- the items before the index are done
-  pub record ItemsGoing (index : ℕ) (out : List ℕ) (at n : ℕ) (table slots words : List ℕ) (top : ℕ) : Type 0 where
-    pub inside : index ≤ length l
-    pub cells : List Cell
-    pub marks : List Mark
-    pub emitted : Emits out₀ at₀ n₀ cells out at n
-    pub same : table ≡ entry
-    pub kept : LogKept bottom slots₀ words₀ slots words
-    pub filed : Filed slots words bottom top marks
-    pub counted : top ≡ bottom + log_entries marks
-    pub room : Room (length l - index) count table slots words at n top
-    pub whole : onward cells marks (forward count d selector entry (drop index l) (0 + index) n) ≡ forward count d selector entry l 0 n₀
+module _ (count d : ℕ) (selector : Operand) (entry : List Operand) where
+  -- what fields give, with so many cells before
+  abbrev pub forward : List (Placed fields.Field) → ℕ → Forward
+  forward l n = forward_items (write_item count d) (write_block count d) selector l entry n
 
-module _ {count d : ℕ} {selector : Operand} {l entry out₀ : List ℕ} {at₀ n₀ : ℕ} {slots₀ words₀ : List ℕ} {bottom : ℕ} where
-  pub items_start : {table : List ℕ} → entry ≡ table → Room (length l) count table slots₀ words₀ at₀ n₀ bottom →
-      ItemsGoing count d selector l entry out₀ at₀ n₀ slots₀ words₀ bottom 0 out₀ at₀ n₀ table slots₀ words₀ bottom
-  unfolding log_entries
-  items_start copied room = record {
-    inside = omega arith;
-    cells = [];
-    marks = [];
-    emitted = emits_none;
-    same = sym copied;
-    kept = log_same;
-    filed = filed_none slots₀ words₀ bottom (omega (arith, room.free)) room.same;
-    counted = omega arith;
-    room = room_less (omega arith) room;
-    whole = refl;
-  }
+  -- what an item gives
+  abbrev pub item_forward : List ℕ → ℕ → Forward
+  item_forward p n = forward_item selector p entry n (write_item count d p entry (n + 1))
 
-  module _ {index : ℕ} {out : List ℕ} {at n : ℕ} {table slots words : List ℕ} {top : ℕ}
-      (g : ItemsGoing count d selector l entry out₀ at₀ n₀ slots₀ words₀ bottom index out at n table slots words top)
-      {opened : Opened} (found : opened ≡ open_of 0 0 (take (length l - index) (drop index l))) where
-    ended : {f : Forward} → record { cells = g.cells; marks = g.marks; table = entry } ≡ f → Forwards f out₀ at₀ n₀ slots₀ words₀ bottom out at n table slots words top
-    ended {f} e = record {
-      emitted = emits_as (ap (λ (h : Forward). h.cells) (sym e)) g.emitted;
-      left = g.same ∙ ap (λ (h : Forward). h.table) e;
-      kept = g.kept;
-      filed = subst (λ (h : Forward). Filed slots words bottom top h.marks) e g.filed;
-      counted = g.counted ∙ ap (λ (h : Forward). bottom + log_entries h.marks) e;
-    }
+  module _ (all : List (Placed fields.Field)) (x₀ : Work) where
+    -- the items passed are done, and the table is again the entry table
+    pub record ItemsGoing (left : Fields) (table : List Operand) (x : Work) : Type 0 where
+      pub done : Forward
+      pub forwards : Forwards done x₀ x table
+      pub same : table ≡ entry
+      pub room : Room (length left.rest.now) table x
+      pub whole : onward done (forward (fields_left left) x.emitter.cells) ≡ forward all x₀.emitter.cells
 
-    pub items_none : {x : ℕ} → opened ≡ Opened.Refused x →
-        Forwards (forward count d selector entry l 0 n₀) out₀ at₀ n₀ slots₀ words₀ bottom out at n table slots words top
-    items_none {x} e = ended (forward_none l index opened found (write_item count d) (write_block count d) selector entry n g.cells g.marks _ g.whole x e)
+pub items_start : {count d : ℕ} {selector : Operand} {entry table : List Operand} {l : List ℕ} {x₀ : Work} {left walk : Fields} → left ≡ walk → walk.rest.now ≡ l → walk.place ≡ 0 →
+    entry ≡ table → Room (length l) table x₀ → ItemsGoing count d selector entry (fields_at 0 l) x₀ left table x₀
+items_start {count} {d} {selector} {entry} {table} {l} {x₀} e rest place copied room = record {
+  done = arrived (untouched table);
+  forwards = forwards_last (translates_none refl);
+  same = sym copied;
+  room = room_begun e rest room;
+  whole = ap (λ (m : List (Placed fields.Field)). forward count d selector entry m x₀.emitter.cells) (walk_begun e rest place);
+}
 
-    module _ {s : Sort} {size : ℕ} (e : opened ≡ Opened.Field s size) where
-      pub items_other : (s ≡ Sort.Item → ⊥) → (s ≡ Sort.Block → ⊥) → Forwards (forward count d selector entry l 0 n₀) out₀ at₀ n₀ slots₀ words₀ bottom out at n table slots words top
-      items_other no_item no_block = ended (forward_other l index opened found (write_item count d) (write_block count d) selector entry n g.cells g.marks _ g.whole s size e no_item no_block)
+module _ {count d : ℕ} {selector : Operand} {entry : List Operand} {all : List (Placed fields.Field)} {x₀ : Work} where
+  module _ {left : Fields} {table : List Operand} {x : Work} (g : ItemsGoing count d selector entry all x₀ left table x) where
+    -- nothing more is done
+    ended : onward g.done (arrived (untouched entry)) ≡ forward count d selector entry all x₀.emitter.cells → Forwards (forward count d selector entry all x₀.emitter.cells) x₀ x table
+    ended e = forwards_as (sym e) (subst (λ (t : List Operand). Forwards (onward g.done (arrived (untouched t))) x₀ x table) g.same (forwards_then g.forwards (forwards_last (translates_none refl))))
 
-      module _ {p : List ℕ} (payload : p ≡ take size (drop (index + 3) l)) where
-        payload_size : length p ≤ size
-        payload_size = omega (arith, ap length payload, length-take size (drop (index + 3) l))
+    pub items_none : fields_left left ≡ [] → Forwards (forward count d selector entry all x₀.emitter.cells) x₀ x table
+    unfolding forward_items
+    items_none e = ended (rw e at g.whole)
 
-        pub items_room : Room (length p + 3) count table slots words at n top
-        items_room = room_less (omega (arith, payload_size, field_within l index opened found s size e)) g.room
+    module _ (f : Field) (next : Fields) (first : fields_left left ≡ placed f ∷ fields_left next) (size : 3 + length f.payload.now + length next.rest.now ≡ length left.rest.now) where
+      pub items_room : Room (length f.payload.now + 3) table x
+      items_room = room_less (omega (arith, size)) g.room
 
-        -- the block that ends them
-        pub items_block : s ≡ Sort.Block → {out₁ : List ℕ} {at₁ n₁ : ℕ} {table₁ slots₁ words₁ : List ℕ} →
-            Translates (write_block count d s p table n) out at n slots words top out₁ at₁ n₁ table₁ slots₁ words₁ →
-            Forwards (forward count d selector entry l 0 n₀) out₀ at₀ n₀ slots₀ words₀ bottom out₁ at₁ n₁ table₁ slots₁ words₁ top
-        items_block is {slots₁ = slots₁} {words₁} t =
-            let w : Written = write_block count d s p table n in
-            let last = forward_block l index opened found (write_item count d) (write_block count d) selector entry n g.cells g.marks _ g.whole s size e p payload is w
-            (ap (λ (k : List ℕ). write_block count d s p k n) g.same) in
-            record {
-              emitted = emits_as (ap (λ (h : Forward). h.cells) (sym last)) (emits_then g.emitted t.emitted);
-              left = t.left ∙ ap (λ (h : Forward). h.table) last;
-              kept = log_then g.kept (log_below g.filed.rising t.kept);
-              filed = subst (λ (h : Forward). Filed slots₁ words₁ bottom top h.marks) last (filed_stays t.kept g.filed);
-              counted = g.counted ∙ ap (λ (h : Forward). bottom + log_entries h.marks) last;
-            }
+      pub items_other : (f.sort ≡ Sort.Item → ⊥) → (f.sort ≡ Sort.Block → ⊥) → Forwards (forward count d selector entry all x₀.emitter.cells) x₀ x table
+      unfolding forward_items
+      items_other no_item no_block = ended (ap (onward g.done) (sym (not_branch f.sort _ _ (arrived (untouched entry)) no_item no_block)) ∙ rw first at g.whole)
 
-        -- one item more
-        pub items_turn : s ≡ Sort.Item → {out₁ : List ℕ} {at₁ n₁ : ℕ} {table₁ slots₁ words₁ : List ℕ} {top₁ : ℕ} → table₁ ≡ entry →
-            Marks (equal_cell selector p ∷ (write_item count d p entry (n + 1)).cells) (mark_of entry n (write_item count d p entry (n + 1)))
-            out at n slots words top out₁ at₁ n₁ slots₁ words₁ top₁ →
-            ItemsGoing count d selector l entry out₀ at₀ n₀ slots₀ words₀ bottom (index + 3 + size) out₁ at₁ n₁ table₁ slots₁ words₁ top₁
-        items_turn is {n₁ = n₁} back m =
-            let within : index + 3 + size ≤ length l = field_within l index opened found s size e in
-            let w : Written = write_item count d p entry (n + 1) in
-            let bound : Bounded (length p) entry w = item_bounded count d p entry (n + 1) in
-            let few : length entry ≤ 128 = omega (arith, ap length g.same, g.room.few) in
-            let small = mark_small (write_item count d) (λ q t k. (item_bounded count d q t k).changed) p entry n in
-            let number : n₁ ≡ n + 1 + length w.cells = omega (arith, m.emitted.counted) in
-            let next = forward_item l index opened found (write_item count d) (write_block count d) selector entry n g.cells g.marks _ g.whole s size e p payload is w refl in
-            let emptier = room_emitted (length p + 1) {b = length l - (index + 3 + size)} g.room m.emitted (omega (arith, bound.cells few)) (omega (arith, payload_size, within)) in
-            record {
-              inside = within;
-              cells = g.cells ++ (equal_cell selector p ∷ w.cells);
-              marks = g.marks ++ (mark_of entry n w ∷ []);
-              emitted = emits_then g.emitted m.emitted;
-              same = back;
-              kept = log_then g.kept (log_below g.filed.rising m.kept);
-              filed = m.filed bottom g.marks g.filed;
-              counted = omega (arith, m.counted, g.counted, log_more g.marks (mark_of entry n w));
-              room = record {
-                few = omega (arith, ap length back, few);
-                variables = g.room.variables;
-                same = m.kept.words_long ∙ g.room.same ∙ sym m.kept.slots_long;
-                short = omega (arith, m.kept.slots_long, g.room.short);
-                free = omega (arith, m.kept.slots_long, m.counted, small, g.room.free, payload_size, within);
-                numbers = emptier.numbers;
-                places = emptier.places;
-              };
-              whole = rw number next;
-            }
+      -- the block that ends them
+      pub items_block : f.sort ≡ Sort.Block → {own : ℕ} → own ≡ count → {table₁ : List Operand} {x₁ : Work} → Translates (write_block own d f.sort f.payload.now table x.emitter.cells) x x₁ table₁ →
+          Forwards (forward count d selector entry all x₀.emitter.cells) x₀ x₁ table₁
+      unfolding forward_items
+      items_block is {own} counted {table₁} {x₁} t =
+          let w : Written = write_block count d f.sort f.payload.now entry x.emitter.cells in
+          let last : Translates w x x₁ table₁ = translates_as (rw (counted, g.same)) t in
+          let whole : onward g.done (arrived w) ≡ forward count d selector entry all x₀.emitter.cells = rw is (rw (first, is) at g.whole) in
+          forwards_as (sym whole) (forwards_then g.forwards (forwards_last last))
+
+      -- one item more
+      pub items_turn : f.sort ≡ Sort.Item → {table₁ : List Operand} {x₁ : Work} → Forwards (item_forward count d selector entry f.payload.now x.emitter.cells) x x₁ table₁ →
+          ItemsGoing count d selector entry all x₀ next table₁ x₁
+      unfolding forward_items log_of
+      items_turn is {table₁} {x₁} t =
+          let p : List ℕ = f.payload.now in
+          let n : ℕ = x.emitter.cells in
+          let w : Written = write_item count d p entry (n + 1) in
+          let bound : Bounded (length p) entry w = item_bounded count d p entry (n + 1) in
+          let few : length entry ≤ 128 = omega (arith, ap length g.same, g.room.few) in
+          let cells = bound.cells few in
+          let mark : Mark = mark_of entry n w in
+          let small = mark_small (write_item count d) (λ q s k. (item_bounded count d q s k).changed) p entry n in
+          let logged : length (log_of (mark ∷ [])) ≡ length mark.changed + 1 =
+          ap length (append-nil (item_log mark)) ∙ length-append mark.changed (record { slot = length mark.changed; operand = Operand.Cell 1 n } ∷ []) in
+          let number : x₁.emitter.cells ≡ n + 1 + length w.cells = omega (arith, t.emitted.counted) in
+          let turned : onward g.done (onward (item_forward count d selector entry p n) (forward count d selector entry (fields_left next) (n + 1 + length w.cells)))
+          ≡ forward count d selector entry all x₀.emitter.cells = rw (first, is) at g.whole in
+          record {
+            done = onward g.done (item_forward count d selector entry p n);
+            forwards = forwards_then g.forwards t;
+            same = t.left;
+            room = record {
+              few = omega (arith, ap length t.left, few);
+              short = omega (arith, t.grown.long, g.room.short);
+              free = omega (arith, t.grown.long, t.grown.height, logged, small, g.room.free, size);
+              numbers = omega (arith, number, cells, g.room.numbers, size);
+              places = omega (arith, emits_past t.emitted, cells, g.room.places, size);
+            };
+            whole = onward_twice g.done (item_forward count d selector entry p n) (forward count d selector entry (fields_left next) x₁.emitter.cells)
+                ∙ ap (λ (k : ℕ). onward g.done (onward (item_forward count d selector entry p n) (forward count d selector entry (fields_left next) k))) number ∙ turned;
+          }
 
 -- the forward loop keeps the table's length
-forward_long : (count d : ℕ) (selector : Operand) (l : List (Placed Field)) (table : List ℕ) (n : ℕ) →
+forward_long : (count d : ℕ) (selector : Operand) (l : List (Placed fields.Field)) (table : List Operand) (n : ℕ) →
     length (forward_items (write_item count d) (write_block count d) selector l table n).table ≡ length table
 unfolding forward_items
 forward_long count d selector [] table n = refl
@@ -149,7 +136,7 @@ forward_long count d selector (f ∷ l) table n =
     (block_bounded count d f.what.sort p table n).kept refl
 
 -- how many cells it adds
-forward_few : (count d : ℕ) (selector : Operand) (l table : List ℕ) (n : ℕ) → length table ≤ 128 →
+forward_few : (count d : ℕ) (selector : Operand) (l : List ℕ) (table : List Operand) (n : ℕ) → length table ≤ 128 →
     length (forward_items (write_item count d) (write_block count d) selector (fields_at 0 l) table n).cells ≤ 128 * length l
 forward_few count d selector l table n few =
     let f : Forward = forward_items (write_item count d) (write_block count d) selector (fields_at 0 l) table n in
@@ -163,59 +150,62 @@ forward_few count d selector l table n few =
     )
 
 -- the backward loop has room
-pub unwind_room : (count d : ℕ) (selector : Operand) (l : List ℕ) {entry table slots words out out₁ table₁ slots₁ words₁ : List ℕ} {at n bottom at₁ n₁ top₁ : ℕ} → entry ≡ table →
-    Room (length l + 3) count table slots words at n bottom →
-    Forwards (forward_items (write_item count d) (write_block count d) selector (fields_at 0 l) entry n) out at n slots words bottom out₁ at₁ n₁ table₁ slots₁ words₁ top₁ →
-    (length entry ≤ 128) × (length table₁ ≡ length entry) × ((marks : List Mark) × Filed slots₁ words₁ bottom top₁ marks)
-    × (n₁ + 128 * (top₁ - bottom) ≤ 2 ^ 31) × (at₁ + 2816 * (top₁ - bottom) ≤ 2 ^ 40)
-unwind_room count d selector l {entry} {n = n} copied room f =
-    let few : length entry ≤ 128 = omega (arith, ap length copied, room.few) in
-    let cells = forward_few count d selector l entry n few in
-    let entries = case_log_lem count d (write_block count d) selector 0 l entry n in (
-      few,
-      ap length f.left ∙ forward_long count d selector (fields_at 0 l) entry n,
-      (_, f.filed),
-      omega (arith, f.emitted.counted, cells, f.counted, entries, room.numbers),
-      omega (arith, emits_past f.emitted, cells, f.counted, entries, room.places),
-    )
+module _ (count d : ℕ) (selector : Operand) (l : List ℕ) {entry table table₁ : List Operand} {x x₁ : Work} (copied : entry ≡ table) (room : Room (length l + 3) table x)
+    (f : Forwards (forward_items (write_item count d) (write_block count d) selector (fields_at 0 l) entry x.emitter.cells) x x₁ table₁) where
+  abbrev found : Forward
+  found = forward_items (write_item count d) (write_block count d) selector (fields_at 0 l) entry x.emitter.cells
 
--- an item's changes have room in the log
-pub log_room_lem : (count d : ℕ) (p : List ℕ) {entry table slots words out out₁ table₁ slots₁ words₁ : List ℕ} {at n top at₁ k at₂ n₂ : ℕ} → entry ≡ table →
-    Room (length p + 3) count table slots words at n top → Translates (write_item count d p table k) out at₁ k slots words top out₁ at₂ n₂ table₁ slots₁ words₁ →
-    (length table₁ ≡ length entry) × (length entry ≤ 128) × (length words₁ ≡ length slots₁) × (length slots₁ ≤ 2 ^ 20) × (top + changes entry table₁ + 1 ≤ length slots₁)
-log_room_lem count d p {entry} {table} {table₁ = table₁} {k = k} copied room t =
-    let bound : Bounded (length p) table (write_item count d p table k) = item_bounded count d p table k in
-    let few : length entry ≤ 128 = omega (arith, ap length copied, room.few) in
-    let changed : changes entry table₁ ≡ changes table (write_item count d p table k).table = ap₂ changes copied t.left in (
-      ap length t.left ∙ bound.kept ∙ ap length (sym copied),
-      few,
-      t.kept.words_long ∙ room.same ∙ sym t.kept.slots_long,
-      omega (arith, t.kept.slots_long, room.short),
-      omega (arith, t.kept.slots_long, room.free, changed, bound.changed),
-    )
+  entry_few : length entry ≤ 128
+  entry_few = omega (arith, ap length copied, room.few)
 
--- an item is done
-pub item_marked : (count d : ℕ) (selector : Operand) (p : List ℕ) {entry table : List ℕ} → entry ≡ table → {constant : Operand} → constant ≡ item_operand p →
-    {slots words out out₁ out₂ table₂ slots₂ words₂ slots₃ words₃ : List ℕ} {at n top at₁ n₁ at₂ n₂ top₃ : ℕ} →
-    Emits out at n (Cell.Two two_operand.Equal 1 selector constant ∷ []) out₁ at₁ n₁ →
-    Translates (write_item count d p table n₁) out₁ at₁ n₁ slots words top out₂ at₂ n₂ table₂ slots₂ words₂ →
-    top₃ ≡ top + changes entry table₂ + 1 → take top slots₃ ≡ take top slots₂ → take top words₃ ≡ take top words₂ →
-    ((bottom : ℕ) (marks : List Mark) → Filed slots₂ words₂ bottom top marks →
-    Filed slots₃ words₃ bottom top₃ (marks ++ (record { equal = n; changed = changes_of entry table₂ } ∷ []))) →
-    length slots₃ ≡ length slots₂ → length words₃ ≡ length words₂ →
-    Marks (equal_cell selector p ∷ (write_item count d p entry (n + 1)).cells) (mark_of entry n (write_item count d p entry (n + 1)))
-    out at n slots words top out₂ at₂ n₂ slots₃ words₃ top₃
-item_marked count d selector p {entry} {table} copied value {table₂ = table₂} {slots₃ = slots₃} {words₃} {n = n} {n₁ = n₁} {top₃ = top₃} e t height slots_same words_same files slots_long words_long =
-    let w : Written = write_item count d p entry (n + 1) in
-    let same : write_item count d p table n₁ ≡ w = rw (← copied, e.counted) in
-    let left : table₂ ≡ w.table = t.left ∙ ap (λ (v : Written). v.table) same in
-    let kept = log_then t.kept (record { slots_below = slots_same; words_below = words_same; slots_long = slots_long; words_long = words_long }) in
-    record {
-      emitted = emits_then (emits_as (ap (λ (o : Operand). Cell.Two two_operand.Equal 1 selector o ∷ []) (sym value)) e)
-          (emits_as (ap (λ (v : Written). v.cells) (sym same)) t.emitted);
-      kept = kept;
-      counted = omega (arith, height, (changes_counted 0 entry w.table).0, ap (changes entry) left);
-      filed = λ bottom marks filed.
-          subst (λ (l : List ℕ). Filed slots₃ words₃ bottom top₃ (marks ++ (record { equal = n; changed = changes_of entry l } ∷ []))) left
-          (files bottom marks (filed_stays t.kept filed));
-    }
+  log_few : 3 * length (log_of found.marks) ≤ length l
+  log_few = case_log_lem count d (write_block count d) selector 0 l entry x.emitter.cells
+
+  pub top_within : x₁.log.top ≤ length x₁.log.entries.now
+  top_within = omega (arith, f.grown.height, f.grown.long, log_few, room.free)
+
+  pub unwind_room : (length entry ≤ 128) × (length table₁ ≡ length entry) × ((marks : List Mark) × Filed x₁.log x.log.top marks) × (length x₁.log.entries.now ≤ 2 ^ 20)
+      × (x₁.emitter.cells + 128 * x₁.log.top ≤ 2 ^ 31 + 128 * x.log.top) × (x₁.emitter.at + 2816 * x₁.log.top ≤ 2 ^ 40 + 2816 * x.log.top)
+  unwind_room =
+      let cells = forward_few count d selector l entry x.emitter.cells entry_few in (
+        entry_few,
+        ap length f.left ∙ forward_long count d selector (fields_at 0 l) entry x.emitter.cells,
+        (found.marks, filed_grown (omega (arith, room.free)) f.grown top_within),
+        omega (arith, f.grown.long, room.short),
+        omega (arith, f.emitted.counted, cells, f.grown.height, log_few, room.numbers),
+        omega (arith, emits_past f.emitted, cells, f.grown.height, log_few, room.places),
+      )
+
+-- an item: its equal cell, its block, and its changes into the log
+
+module _ (d : ℕ) (p : List ℕ) {entry table table₂ : List Operand} {x x₂ : Work} {e₁ : Emitter} (copied : entry ≡ table) (own : ℕ) where
+  -- there is room for its changes in the log
+  pub log_room_lem : (k : ℕ) → Room (length p + 3) table x → Translates (write_item own d p table k) (record { emitter = e₁; log = x.log }) x₂ table₂ →
+      (length table₂ ≡ length entry) × (length entry ≤ 128) × (length x₂.log.entries.now ≤ 2 ^ 20) × (x₂.log.top + changes entry table₂ + 1 ≤ length x₂.log.entries.now)
+  log_room_lem k room t =
+      let bound : Bounded (length p) table (write_item own d p table k) = item_bounded own d p table k in
+      let changed : changes entry table₂ ≡ changes table (write_item own d p table k).operands = ap₂ changes copied t.left in (
+        ap length t.left ∙ bound.kept ∙ ap length (sym copied),
+        omega (arith, ap length copied, room.few),
+        omega (arith, t.kept.long, room.short),
+        omega (arith, t.kept.long, t.kept.height, room.free, changed, bound.changed),
+      )
+
+  -- an item is done
+  pub item_marked : {count : ℕ} → own ≡ count → (selector : Operand) {constant : Operand} → constant ≡ item_operand p → Emits x.emitter (Cell.Two two_operand.Equal 1 selector constant ∷ []) e₁ →
+      Translates (write_item own d p table e₁.cells) (record { emitter = e₁; log = x.log }) x₂ table₂ → {table₃ : List Operand} {log₃ : Log} → table₃ ≡ entry →
+      Grown x₂.log (item_log (record { equal = x.emitter.cells; changed = changes_of entry table₂ })) log₃ →
+      Forwards (forward_item selector p entry x.emitter.cells (write_item count d p entry (x.emitter.cells + 1))) x (record { emitter = x₂.emitter; log = log₃ }) table₃
+  unfolding log_of
+  item_marked {count} counted selector value e t {log₃ = log₃} back logged =
+      let n : ℕ = x.emitter.cells in
+      let w : Written = write_item count d p entry (n + 1) in
+      let same : write_item own d p table e₁.cells ≡ w = rw (counted, ← copied, e.counted) in
+      let left : table₂ ≡ w.operands = t.left ∙ ap (λ (v : Written). v.operands) same in
+      record {
+        emitted = emits_then (emits_as (ap (λ (o : Operand). Cell.Two two_operand.Equal 1 selector o ∷ []) (sym value)) e)
+            (emits_as (ap (λ (v : Written). v.cells) (sym same)) t.emitted);
+        left = back;
+        grown = grown_as (append-nil (item_log (mark_of entry n w)))
+            (subst (λ (o : List Operand). Grown x.log (item_log (record { equal = n; changed = changes_of entry o })) log₃) left (grown_then t.kept logged));
+      }

@@ -1,19 +1,19 @@
 -- Laws of the translator's code: what is emitted and how far counts can grow, the log of a case, and one turn of each loop.
 pub mod SortBranches
+pub mod SameOperands
 pub mod ChangeCounts
 pub mod FieldSizes
 pub mod Bounds
 pub mod CaseLoops
-pub mod CaseTurns
-pub mod PackingLaws
 pub mod EmitLaws
-pub mod ExpressionEmits
-pub mod MergingSteps
-pub mod LogParts
+pub mod FrontTurns
+pub mod MergeLaws
 pub mod LogLaws
-pub mod LogSteps
-pub mod WritingSteps
-pub mod StartTurns
+pub mod ExpressionEmits
 pub mod DriveTurns
+pub mod StartTurns
+pub mod WorkLaws
+pub mod WritingSteps
 pub mod ListSteps
+pub mod UnwindSteps
 pub mod ItemSteps

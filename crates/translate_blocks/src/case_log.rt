@@ -1,157 +1,108 @@
-// The log of a case's items: forward, an item's changes are logged and the table is set back; backward, each item's table is merged with that of all that follows.
-ghost use Rattle.std.specs.Prelude.{◌≡◌, cond, List, [], ◌∷◌, ◌+◌, ◌-◌, ◌*◌, ◌^◌, ◌≤◌, eqb, length, get_or, take};
-ghost use Rattle.tagged.specs.Bytes.{Wrote};
-ghost use Rattle.translate_blocks.specs.Writing.{Emits};
-ghost use Rattle.translate_blocks.specs.Log.{changes, changes_of, put_words, Mark, merge_mark, backward_items, Filed, ItemLogged, mark_start, mark_at};
+// The log of a case's items: forward, an item's changes are logged and the table is set back; backward, each item's changes are put on a copy of the table again.
+ghost use Rattle.std.specs.Prelude.{◌≡◌, List, [], ◌∷◌, ◌++◌, ◌+◌, ◌^◌, ◌≤◌, ◌<◌, length};
+ghost use Rattle.netlist.specs.declared.Operand.TheVariants as Operand;
+ghost use Rattle.translate_blocks.specs.Log.{changes, changes_from, changes_of, patched, Mark, item_log};
+ghost use Rattle.translate_blocks.specs.declared.case_log.Entry.{Entry};
+ghost use Rattle.translate_blocks.specs.Working.{Grown, Last, Lowered};
 
-use crate::emit::Emission;
-use crate::merge_words::merge;
-use crate::packing::{copy_words, put_word, word_at};
 use netlist::Operand;
-use tagged::bytes::{byte_at, put_byte};
-use tagged::limits::Variables;
+use tagged::bytes::put_item;
 
-// Logs an entry of a table, if it differs from the entry table's. The index past what is logged.
-fn log_one(slots: &mut [u8], words: &mut [u64], top: usize, slot: u8, old: u64, word: u64) -> usize
-    requires { top + 1 ≤ 2 ^ 40 }
-    ensures slots_logged { Wrote slots.old top (cond (eqb old word) [] (slot ∷ [])) slots.new result }
-    ensures words_logged { Wrote words.old top (cond (eqb old word) [] (word ∷ [])) words.new result }
+// A slot of a table, and the operand that it has after an item. In the mark that closes an item: how many changes it has, and its equal cell.
+#[derive(Clone, Copy, Debug, PartialEq, Eq)]
+pub struct Entry {
+    pub slot: u8,
+    pub operand: Operand,
+}
+
+// The log, and how many entries stand in it.
+#[derive(Drop)]
+pub struct Log<'a> {
+    pub entries: &'a mut [Entry],
+    pub top: usize,
+}
+
+// Puts changes on a table.
+fn patch(side: &mut [Operand], changed: &[Entry])
+    ensures { side.new ≡ patched changed.now side.old }
 {
-    if old == word {
-        top
-    } else {
-        put_word(words, top, word);
-        put_byte(slots, top, slot)
+    for change in changed {
+        put_item(side, usize::from(change.slot), change.operand);
     }
 }
 
-// Logs where a table differs from the entry table, and sets it back. The index past the changes.
-fn log_changes(
-    entry: &[u64],
-    table: &mut [u64],
-    slots: &mut [u8],
-    words: &mut [u64],
-    top: usize,
-) -> usize
-    requires { (length table.old ≡ length entry.now) × (length entry.now ≤ 128) × (top + 128 ≤ 2 ^ 40) }
-    ensures { (table.new ≡ entry.now)
-        × Wrote slots.old top (changes_of entry.now table.old).slots slots.new result
-        × Wrote words.old top (changes_of entry.now table.old).words words.new result }
-{
-    let mut past = top;
-    let mut index: usize = 0;
-    while index < entry.len() {
-        let old = entry[index];
-        let word = table[index];
-        past = log_one(slots, words, past, index as u8, old, word);
-        put_word(table, index, old);
-        index = index + 1;
+impl Log<'_> {
+    // Puts an entry above the others.
+    fn push(&mut self, entry: Entry)
+        requires { (self.old.top + 1 ≤ length self.old.entries.now) × (length self.old.entries.now ≤ 2 ^ 20) }
+        ensures { Grown self.old (entry ∷ []) self.new }
+    {
+        self.entries[self.top] = entry;
+        self.top += 1;
     }
-    past
-}
 
-// Logs where a table differs from the entry table, closes the item with its mark, and sets the table back. The index past the mark.
-pub fn log_item(
-    entry: &[u64],
-    table: &mut [u64],
-    slots: &mut [u8],
-    words: &mut [u64],
-    top: usize,
-    number: u32,
-) -> usize
-    requires { (length table.old ≡ length entry.now) × (length entry.now ≤ 128) × (length words.old ≡ length slots.old)
-        × (length slots.old ≤ 2 ^ 20) × (top + changes entry.now table.old + 1 ≤ length slots.old) }
-    ensures { ItemLogged entry.now table.old slots.old words.old top number
-        table.new slots.new words.new result }
-{
-    let past = log_changes(entry, table, slots, words, top);
-    let count = (past - top) as u8;
-    put_word(words, past, number as u64);
-    put_byte(slots, past, count)
-}
-
-// Puts a word into each of some slots.
-fn put_changes(side: &mut [u64], slots: &[u8], words: &[u64])
-    requires { length words.now ≡ length slots.now }
-    ensures { side.new ≡ put_words slots.now words.now side.old }
-{
-    let mut index: usize = 0;
-    while index < slots.len() {
-        let slot = byte_at(slots, index) as usize;
-        put_word(side, slot, word_at(words, index));
-        index = index + 1;
+    // Logs the operand in a slot, if it is not the one that it was.
+    #[tactic(auto, using(crate::proofs::SameOperands::operands_same, crate::proofs::SameOperands::operands_differ, crate::proofs::LogLaws::grown_none), unfolding(crate::specs::Log::changes, crate::specs::Log::changes_from))]
+    fn push_change(&mut self, slot: u8, old: Operand, operand: Operand)
+        requires { (self.old.top + changes (old ∷ []) (operand ∷ []) ≤ length self.old.entries.now) × (length self.old.entries.now ≤ 2 ^ 20) }
+        ensures { Grown self.old (changes_from slot (old ∷ []) (operand ∷ [])) self.new }
+    {
+        if old != operand {
+            self.push(Entry { slot, operand });
+        }
     }
-}
 
-// Where the changes of the item start whose mark ends at an index.
-fn mark_start(slots: &[u8], past: usize) -> usize
-    requires { get_or slots.now (past - 1) 0 + 1 ≤ past }
-    ensures { result ≡ mark_start slots.now past }
-{
-    let mark = past - 1;
-    mark - byte_at(slots, mark) as usize
-}
-
-// Merges the table of the item whose mark ends at an index with the table of all that follows.
-fn merge_mark(
-    out: &mut [u8],
-    at: usize,
-    cells: u32,
-    entry: &[u64],
-    slots: &[u8],
-    words: &[u64],
-    past: usize,
-    table: &mut [u64],
-) -> Emission
-    requires { (at + 2816 ≤ 2 ^ 40) × (cells + 128 ≤ 2 ^ 31) × (length entry.now ≤ 128) × (length table.old ≡ length entry.now)
-        × (length words.now ≡ length slots.now) × (get_or slots.now (past - 1) 0 + 1 ≤ past) × (past ≤ length slots.now) }
-    ensures emits { Emits out.old at cells
-        (merge_mark entry.now (mark_at slots.now words.now past) table.old cells).cells
-        out.new result.at result.cells }
-    ensures table_after { table.new
-        ≡ (merge_mark entry.now (mark_at slots.now words.now past) table.old cells).table }
-{
-    let start = mark_start(slots, past);
-    let mark = past - 1;
-    let number = (word_at(words, mark) % 4294967296) as u32;
-    let mut side = [0u64; 2 * Variables::MAX];
-    copy_words(entry, &mut side);
-    put_changes(&mut side, &slots[start..mark], &words[start..mark]);
-    let count = entry.len();
-    let condition = Operand::Cell(1, number);
-    merge(out, at, cells, condition, &side[..count], table)
-}
-
-// Merges the items that stand in the log from `bottom` up to `top`, the last first.
-pub fn unwind(
-    out: &mut [u8],
-    at: usize,
-    cells: u32,
-    entry: &[u64],
-    slots: &[u8],
-    words: &[u64],
-    bottom: usize,
-    top: usize,
-    table: &mut [u64],
-) -> Emission
-    requires { (length entry.now ≤ 128) × (length table.old ≡ length entry.now)
-        × ((marks : List Mark) × Filed slots.now words.now bottom top marks)
-        × (cells + 128 * (top - bottom) ≤ 2 ^ 31) × (at + 2816 * (top - bottom) ≤ 2 ^ 40) }
-    ensures { (marks : List Mark) → Filed slots.now words.now bottom top marks
-        → Emits out.old at cells (backward_items entry.now marks table.old cells).cells out.new result.at result.cells
-        × (table.new ≡ (backward_items entry.now marks table.old cells).table) }
-{
-    let mut place = at;
-    let mut count = cells;
-    let mut past = top;
-    while bottom < past {
-        let next = merge_mark(out, place, count, entry, slots, words, past, table);
-        place = next.at;
-        count = next.cells;
-        past = mark_start(slots, past);
+    // Logs where a table differs from the entry table, and sets it back.
+    #[tactic(auto, using(crate::proofs::LogLaws::log_room, crate::proofs::LogLaws::log_done))]
+    fn push_changes(&mut self, entry: &[Operand], table: &mut [Operand])
+        requires { (length table.old ≡ length entry.now) × (length entry.now ≤ 128)
+            × (length self.old.entries.now ≤ 2 ^ 20) × (self.old.top + changes entry.now table.old ≤ length self.old.entries.now) }
+        ensures set_back { table.new ≡ entry.now }
+        ensures grown { Grown self.old (changes_of entry.now table.old) self.new }
+    {
+        for (slot, old) in entry.iter().enumerate() {
+            self.push_change(slot as u8, *old, table[slot]);
+            table[slot] = *old;
+        }
     }
-    Emission {
-        at: place,
-        cells: count,
+
+    // Logs where a table differs from the entry table, closes the item with its mark, and sets the table back.
+    #[tactic(auto, using(crate::proofs::CaseLoops::changes_counted, crate::proofs::ChangeCounts::changes_most))]
+    pub fn push_item(&mut self, entry: &[Operand], table: &mut [Operand], number: u32)
+        requires { (length table.old ≡ length entry.now) × (length entry.now ≤ 128)
+            × (length self.old.entries.now ≤ 2 ^ 20) × (self.old.top + changes entry.now table.old + 1 ≤ length self.old.entries.now) }
+        ensures set_back { table.new ≡ entry.now }
+        ensures grown { Grown self.old (item_log (record { equal = number; changed = changes_of entry.now table.old })) self.new }
+    {
+        let bottom = self.top;
+        self.push_changes(entry, table);
+        self.push(Entry {
+            slot: (self.top - bottom) as u8,
+            operand: Operand::Cell(1, number),
+        });
+    }
+
+    // Puts the changes of the last item on a table: where its changes start, and its equal cell.
+    fn last_item(&self, side: &mut [Operand]) -> (usize, Operand)
+        requires { ((below : List Entry) × (mark : Mark) × Last self.now below mark) × (length self.now.entries.now ≤ 2 ^ 20) }
+        ensures { (below : List Entry) (mark : Mark) → Last self.now below mark → (result.0 ≡ length below)
+            × (result.1 ≡ Operand.Cell 1 mark.equal) × (side.new ≡ patched mark.changed side.old) }
+    {
+        let mark = self.top - 1;
+        let closing = self.entries[mark];
+        let start = mark - usize::from(closing.slot);
+        patch(side, &self.entries[start..mark]);
+        (start, closing.operand)
+    }
+
+    // Takes the last item off the log: puts its changes on a table, and gives its equal cell.
+    pub fn pop_item(&mut self, side: &mut [Operand]) -> Operand
+        requires { ((below : List Entry) × (mark : Mark) × Last self.old below mark) × (length self.old.entries.now ≤ 2 ^ 20) }
+        ensures { (below : List Entry) (mark : Mark) → Last self.old below mark → (result ≡ Operand.Cell 1 mark.equal)
+            × (side.new ≡ patched mark.changed side.old) × Lowered self.old (length below) self.new }
+    {
+        let (start, condition) = self.last_item(side);
+        self.top = start;
+        condition
     }
 }

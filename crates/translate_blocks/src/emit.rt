@@ -1,25 +1,25 @@
 // Cells written one after the other, only where there is room, and counted.
 ghost use Rattle.std.specs.Prelude.{[], ◌∷◌, ◌+◌, ◌^◌, ◌≤◌};
-ghost use Rattle.translate_blocks.specs.Writing.{Emits};
+ghost use Rattle.translate_blocks.specs.Emitting.{Emits};
 
 use netlist::Cell;
 use netlist::write::put_cell;
 
-// Where the next byte goes, and how many cells there are.
-#[derive(Clone, Copy)]
-pub struct Emission {
+// The buffer that a netlist is written into, where the next byte goes, and how many cells there are.
+#[derive(Drop)]
+pub struct Emitter<'a> {
+    pub out: &'a mut [u8],
     pub at: usize,
     pub cells: u32,
 }
 
-// Writes one cell.
-pub fn emit(out: &mut [u8], at: usize, cells: u32, cell: Cell) -> Emission
-    requires { (at + 22 ≤ 2 ^ 40) × (cells + 1 ≤ 2 ^ 31) }
-    ensures { Emits out.old at cells (cell ∷ []) out.new result.at result.cells }
-{
-    let past = put_cell(out, at, cell);
-    Emission {
-        at: past,
-        cells: cells + 1,
+impl Emitter<'_> {
+    // Writes one cell.
+    pub fn emit(&mut self, cell: Cell)
+        requires { (self.old.at + 22 ≤ 2 ^ 40) × (self.old.cells + 1 ≤ 2 ^ 31) }
+        ensures { Emits self.old (cell ∷ []) self.new }
+    {
+        self.at = put_cell(self.out, self.at, cell);
+        self.cells += 1;
     }
 }

@@ -1,99 +1,78 @@
 // How the translation begins and ends: the table in which each variable is itself, and the drives of the registers.
-ghost use Rattle.std.specs.Prelude.{◌≡◌, ◌+◌, ◌*◌, ◌^◌, ◌≤◌, length, get_or};
+ghost use Rattle.std.specs.Prelude.{◌≡◌, ◌+◌, ◌*◌, ◌^◌, ◌≤◌, length};
 ghost use Rattle.std.proofs.lemmas.List.Edits.{sets};
 ghost use Rattle.tagged.specs.Limits.{most_variables};
-ghost use Rattle.tagged.specs.Bytes.{Wrote};
-ghost use Rattle.tagged.specs.Fields.{all_bytes_of};
-ghost use Rattle.netlist.specs.Form.{drive_bytes};
-ghost use Rattle.translate_blocks.specs.Ends.{start_from, start_words, drive_slot, drive_by, marked_drive, drives_by};
+ghost use Rattle.translate_blocks.specs.Emitting.{Drives};
+ghost use Rattle.translate_blocks.specs.Ends.{start_from, start_table, drive_by, marked_drive, drives_by};
 
-use crate::packing::{pack, put_word, unpack, word_at};
+use crate::emit::Emitter;
+use crate::table::{operand_at, slot_of};
 use netlist::write::put_drive;
 use netlist::{Drive, Operand};
-use verilog_check::judge::first_of;
+use tagged::bytes::{get_or, put_item};
+use verilog_check::assignments::{First, kind_of};
 
-// Puts the word of each variable itself, from an index on.
-fn put_variables(table: &mut [u64], at: usize, widths: &[u8])
+// Puts each variable itself, from a slot on.
+#[tactic(auto, using(crate::proofs::StartTurns::start_begun, crate::proofs::StartTurns::start_turn, crate::proofs::StartTurns::start_done))]
+fn put_variables(table: &mut [Operand], at: usize, widths: &[u8])
     requires { (at ≤ most_variables) × (length widths.now ≤ most_variables) }
     ensures { table.new ≡ sets table.old at (start_from 0 widths.now) }
 {
-    let mut variable: usize = 0;
-    while variable < widths.len() {
-        let width = widths[variable];
-        let word = pack(Operand::Variable(width, variable as u32));
-        put_word(table, at + variable, word);
-        variable = variable + 1;
+    for (variable, width) in widths.iter().enumerate() {
+        let operand = Operand::Variable(*width, variable as u32);
+        put_item(table, at + variable, operand);
     }
 }
 
 // The table that the translation begins with: each variable itself, as current and as pending operand.
-pub fn start_table(widths: &[u8], table: &mut [u64])
+pub fn start_table(widths: &[u8], table: &mut [Operand])
     requires { (length table.old ≡ 2 * length widths.now) × (length widths.now ≤ most_variables) }
-    ensures { table.new ≡ start_words widths.now }
+    ensures { table.new ≡ start_table widths.now }
 {
     put_variables(table, 0, widths);
     put_variables(table, widths.len(), widths);
 }
 
-// Where a table of so many variables has the operand that drives a variable with this first assignment.
-fn drive_slot(count: usize, first: usize, variable: u8) -> usize
-    requires { count ≤ most_variables }
-    ensures { result ≡ drive_slot count first variable }
-{
-    if first % 2 == 1 {
-        count + variable as usize
-    } else {
-        variable as usize
-    }
-}
-
 // The drive of a variable.
-fn drive_of(count: usize, firsts: &[usize], table: &[u64], variable: u8) -> Drive
+fn drive_of(count: usize, firsts: &[Option<First>], table: &[Operand], variable: u8) -> Drive
     requires { count ≤ most_variables }
     ensures { result ≡ drive_by count firsts.now table.now variable }
 {
-    let slot = drive_slot(count, first_of(firsts, variable), variable);
-    let operand = unpack(word_at(table, slot));
+    let first = get_or(firsts, usize::from(variable), None);
+    let slot = slot_of(count, kind_of(first), variable);
     Drive {
-        variable: variable,
-        operand: operand,
+        variable,
+        operand: operand_at(table, slot),
     }
 }
 
-// Writes the drive of a variable, if it is marked as a register; the index past it.
-fn put_marked(
-    count: usize,
-    firsts: &[usize],
-    table: &[u64],
-    variable: u8,
-    mark: u8,
-    out: &mut [u8],
-    at: usize,
-) -> usize
-    requires { (count ≤ most_variables) × (at + 10 ≤ 2 ^ 40) }
-    ensures { Wrote out.old at
-        (all_bytes_of drive_bytes (marked_drive count firsts.now table.now variable mark)) out.new result }
-{
-    if mark == 0 {
-        at
-    } else {
-        put_drive(out, at, drive_of(count, firsts, table, variable))
+impl Emitter<'_> {
+    // Writes the drive of a variable, if it is marked as a register.
+    #[tactic(auto, using(crate::proofs::DriveTurns::drives_none), unfolding(crate::specs::Ends::marked_drive, tagged::specs::Fields::all_bytes_of))]
+    fn marked_drive(
+        &mut self,
+        count: usize,
+        firsts: &[Option<First>],
+        table: &[Operand],
+        variable: u8,
+        mark: bool,
+    )
+        requires { (count ≤ most_variables) × (self.old.at + 10 ≤ 2 ^ 40) }
+        ensures { Drives self.old (marked_drive count firsts.now table.now variable mark) self.new }
+    {
+        if mark {
+            let drive = drive_of(count, firsts, table, variable);
+            self.at = put_drive(self.out, self.at, drive);
+        }
     }
-}
 
-// Writes the drives of all registers in rising order, so far as there is room; the index past them.
-pub fn put_drives(marks: &[u8], firsts: &[usize], table: &[u64], out: &mut [u8], at: usize) -> usize
-    requires { (length marks.now ≤ most_variables) × (at + 640 ≤ 2 ^ 40) }
-    ensures { Wrote out.old at
-        (all_bytes_of drive_bytes (drives_by marks.now firsts.now table.now)) out.new result }
-{
-    let count = marks.len();
-    let mut place = at;
-    let mut variable: usize = 0;
-    while variable < count {
-        let mark = marks[variable];
-        place = put_marked(count, firsts, table, variable as u8, mark, out, place);
-        variable = variable + 1;
+    // Writes the drives of all registers in rising order, so far as there is room.
+    pub fn drives(&mut self, marks: &[bool], firsts: &[Option<First>], table: &[Operand])
+        requires { (length marks.now ≤ most_variables) × (self.old.at + 640 ≤ 2 ^ 40) }
+        ensures { Drives self.old (drives_by marks.now firsts.now table.now) self.new }
+    {
+        for (variable, mark) in marks.iter().enumerate() {
+            self.marked_drive(marks.len(), firsts, table, variable as u8, *mark);
+        }
     }
-    place
 }

@@ -6,5 +6,5 @@ pub mod case_log;
 pub mod emit;
 pub mod ends;
 pub mod expression;
-pub mod merge_words;
-pub mod packing;
+pub mod merge;
+pub mod table;

@@ -7,12 +7,11 @@ use Prim.Native.Nat.{ℕ, ◌*◌, ◌^◌, ◌<◌}
 use lib.ListN.{length, get_or, length-map}
 use borrow.Author.Tests.{eq-eqb}
 use Rattle.words.specs.Values.{Outcome, got}
-use Rattle.tagged.specs.Answers.{Promise}
+use Rattle.tagged.specs.Answers.{acceptance, Promise, Answer}
 use Rattle.tagged.specs.Declarations.{Declaration, width_of}
 use Rattle.tagged.specs.Rows.{row_bytes, row_numbers, all_fit, rows_fit, row_answer}
 use Rattle.tagged.specs.Runs.{run_answer_of, row_left}
 use Rattle.tagged.specs.Cycles.{with_inputs, inputs_fit, cycles_by}
-use Rattle.tagged.specs.declared.answers.Answer.{Answer}
 use Rattle.tagged.proofs.RowLaws.{row_back, bytes_length, fits_length}
 use Rattle.tagged.proofs.CycleLaws.{with_inputs_fits, Steps}
 use Rattle.translator.specs.Calls.{RunCall, Calls, no_call, call}
@@ -25,16 +24,16 @@ pub numbers_given : (widths row : List ℕ) → all_fit widths row ≡ true → 
 numbers_given widths row fits small = ap (λ (n : ℕ). row_numbers n (row_bytes row)) (sym (fits_length widths row fits)) ∙ numbers_back row small
 
 -- a call on the bytes of a row that fits is accepted, and leaves the bytes of the next row
-pub run_given : (answer : Answer) (widths row next after : List ℕ) (cycle : Outcome (List ℕ)) → answer ≡ Answer.Accepted → all_fit widths row ≡ true →
+pub run_given : (answer : Answer) (widths row next after : List ℕ) (cycle : Outcome (List ℕ)) → answer ≡ acceptance → all_fit widths row ≡ true →
     ((i : ℕ) → get_or row i 0 < 2 ^ 32) → length next ≡ 4 * length widths → cycle ≡ got after → {given : Answer} {left : List ℕ} →
     Promise (run_answer_of answer widths (row_bytes row) (length next)) (row_left (run_answer_of answer widths (row_bytes row) (length next)) cycle next) given left →
-    (given ≡ Answer.Accepted) × (left ≡ row_bytes after)
+    (given ≡ acceptance) × (left ≡ row_bytes after)
 unfolding run_answer_of row_answer rows_fit
 run_given answer widths row next after cycle accepted fits small long ran p =
     let count : length row ≡ length widths = fits_length widths row fits in
     let back : row_numbers (length widths) (row_bytes row) ≡ row = numbers_given widths row fits small in
     let row-long : length (row_bytes row) ≡ 4 * length widths = bytes_length row ∙ ap (λ (n : ℕ). 4 * n) count in
-    let yes : run_answer_of answer widths (row_bytes row) (length next) ≡ Answer.Accepted =
+    let yes : run_answer_of answer widths (row_bytes row) (length next) ≡ acceptance =
     rw (accepted, eq-eqb (length (row_bytes row)) (4 * length widths) row-long, eq-eqb (length next) (4 * length widths) long, back, fits) in
     (p.answered ∙ yes, p.leaves ∙ ap₂ (λ (a : Answer) (o : Outcome (List ℕ)). row_left a o next) yes ran)
 
@@ -42,16 +41,16 @@ run_given answer widths row next after cycle accepted fits small long ran p =
 pub record Gives (cycle : List ℕ → Outcome (List ℕ)) (ds : List Declaration) (row : List ℕ) (inputs : List (List ℕ)) (answers : List Answer) (lefts : List (List ℕ)) : Type 0 where
   pub rows : List (List ℕ)
   pub runs : cycles_by cycle ds row inputs ≡ got rows
-  pub accepted : (a : Answer) → Memᴰ a answers → a ≡ Answer.Accepted
+  pub accepted : (a : Answer) → Memᴰ a answers → a ≡ acceptance
   pub held : lefts ≡ map row_bytes rows
 
 module _ (run : RunCall) (cycle : List ℕ → Outcome (List ℕ)) (ds : List Declaration)
     (small : (row : List ℕ) → all_fit (map width_of ds) row ≡ true → (i : ℕ) → get_or row i 0 < 2 ^ 32)
     (steps : (row : List ℕ) → all_fit (map width_of ds) row ≡ true → Steps cycle ds row)
     (one : (row next after : List ℕ) → all_fit (map width_of ds) row ≡ true → length next ≡ 4 * length ds → cycle row ≡ got after → (answer : Answer) (left : List ℕ) →
-    run (row_bytes row) next answer left → (answer ≡ Answer.Accepted) × (left ≡ row_bytes after)) where
-  each_accepted : {answer : Answer} {answers : List Answer} → answer ≡ Answer.Accepted → ((a : Answer) → Memᴰ a answers → a ≡ Answer.Accepted) →
-      (a : Answer) → Memᴰ a (answer ∷ answers) → a ≡ Answer.Accepted
+    run (row_bytes row) next answer left → (answer ≡ acceptance) × (left ≡ row_bytes after)) where
+  each_accepted : {answer : Answer} {answers : List Answer} → answer ≡ acceptance → ((a : Answer) → Memᴰ a answers → a ≡ acceptance) →
+      (a : Answer) → Memᴰ a (answer ∷ answers) → a ≡ acceptance
   each_accepted e later a (Memᴰ.head h) = h ∙ e
   each_accepted e later a (Memᴰ.tail m) = later a m
 

@@ -8,6 +8,7 @@
 -- (d) both give the same whole rows, one for each cycle, and each row fits;
 -- (e) each cycle is quiet: the blocks not taken would not stop either;
 -- (f) calling both runs cycle after cycle, no call is refused, and each leaves the bytes of these very rows.
+use Rattle.std.specs.Prelude.{Ok}
 use mathlib.Core.Path.{◌≡◌, sym, ap, ap₂, ◌∙◌}
 use mathlib.Core.Bool.{true}
 use mathlib.Core.List.{List, [], ◌∷◌, ◌++◌, map, Memᴰ}
@@ -21,12 +22,11 @@ use lib.Seq.{take-append_seam, drop-append_seam}
 use borrow.Author.Tests.{leb-true, le-ltb, ltb-true}
 use Rattle.words.specs.Values.{Outcome, got}
 use Rattle.words.specs.Widths.{fits_width}
+use Rattle.tagged.specs.Answers.{acceptance, written, Answer, Translation}
 use Rattle.tagged.specs.Limits.{most_cells}
 use Rattle.tagged.specs.Declarations.{Declaration, width_of}
 use Rattle.tagged.specs.Rows.{row_bytes, all_fit}
 use Rattle.tagged.specs.Cycles.{inputs_fit, cycles_by}
-use Rattle.tagged.specs.declared.answers.Answer.{Answer}
-use Rattle.tagged.specs.declared.answers.Translation.{Translation}
 use Rattle.tagged.proofs.TestLaws.{both}
 use Rattle.tagged.proofs.CycleLaws.{Steps}
 use Rattle.netlist.specs.Lists.{Netlist}
@@ -50,19 +50,19 @@ use Rattle.translator.proofs.CallsGive.{numbers_given, run_given, calls_give}
 
 -- (a) and (b): what was written into a buffer, and the answer to reading it
 pub record Written (file buffer : List ℕ) (answer : Translation) (left : List ℕ) : Type 0 where
-  pub answered : answer ≡ Translation.Written (length (translated_bytes file)) (cell_count file)
+  pub answered : answer ≡ Ok (written (length (translated_bytes file)) (cell_count file))
   pub netlist : take (length (translated_bytes file)) left ≡ translated_bytes file
   pub beyond : drop (length (translated_bytes file)) left ≡ drop (length (translated_bytes file)) buffer
-  pub read : (reading : Answer) → reading ≡ netlist_answer (take (length (translated_bytes file)) left) → reading ≡ Answer.Accepted
+  pub read : (reading : Answer) → reading ≡ netlist_answer (take (length (translated_bytes file)) left) → reading ≡ acceptance
   pub lists : netlist_in (take (length (translated_bytes file)) left) ≡ netlist_of_file file
 
 -- (c) to (e) are the agreement of the definitions; (f) is about the calls on the file and on the bytes of its netlist
 pub record Agreed (file netlist row : List ℕ) (inputs : List (List ℕ)) : Type 0 where
   pub agreement : definitions.Agreement file row inputs
   pub module_calls : {answers : List Answer} {lefts : List (List ℕ)} → Calls (module_call file) (definitions.declared file) row inputs answers lefts →
-      ((a : Answer) → Memᴰ a answers → a ≡ Answer.Accepted) × (lefts ≡ map row_bytes agreement.rows)
+      ((a : Answer) → Memᴰ a answers → a ≡ acceptance) × (lefts ≡ map row_bytes agreement.rows)
   pub netlist_calls : {answers : List Answer} {lefts : List (List ℕ)} → Calls (netlist_call netlist) (definitions.declared file) row inputs answers lefts →
-      ((a : Answer) → Memᴰ a answers → a ≡ Answer.Accepted) × (lefts ≡ map row_bytes agreement.rows)
+      ((a : Answer) → Memᴰ a answers → a ≡ acceptance) × (lefts ≡ map row_bytes agreement.rows)
 
 pub record Demand3 (file : List ℕ) : Type 0 where
   pub written : (buffer : List ℕ) → length (translated_bytes file) ≤ length buffer → {answer : Translation} {left : List ℕ} →
@@ -86,7 +86,7 @@ small_numbers (more_widths {d} wide later) (v ∷ row) fits (suc i) = small_numb
 same_rows : {o : Outcome (List (List ℕ))} {a b : List (List ℕ)} → o ≡ got a → o ≡ got b → a ≡ b
 same_rows p q = cc
 
-module _ (file : List ℕ) (accepted : module_answer file ≡ Answer.Accepted) (few : cell_count file ≤ most_cells) where
+module _ (file : List ℕ) (accepted : module_answer file ≡ acceptance) (few : cell_count file ≤ most_cells) where
   abbrev size : ℕ
   size = length (translated_bytes file)
 
@@ -103,7 +103,7 @@ module _ (file : List ℕ) (accepted : module_answer file ≡ Answer.Accepted) (
   small row fits = small_numbers typed.widths row fits
 
   -- (a)
-  long_enough : (room : ℕ) → size ≤ room → translate_answer file room ≡ Translation.Written size (cell_count file)
+  long_enough : (room : ℕ) → size ≤ room → translate_answer file room ≡ Ok (written size (cell_count file))
   unfolding translate_answer
   long_enough room h = rw (accepted, le-ltb most_cells (cell_count file) few, le-ltb room size h)
 
@@ -138,14 +138,14 @@ module _ (file : List ℕ) (accepted : module_answer file ≡ Answer.Accepted) (
     next_long = long ∙ ap (λ (n : ℕ). 4 * n) (sym (length-map ds width_of))
 
     module_one : module_cycle (module_in file) row ≡ got after → (answer : Answer) (left : List ℕ) → module_call file (row_bytes row) next answer left →
-        (answer ≡ Answer.Accepted) × (left ≡ row_bytes after)
+        (answer ≡ acceptance) × (left ≡ row_bytes after)
     unfolding module_run.run_answer module_run.run_leaves
     module_one ran answer left p =
         run_given (module_answer file) (map width_of ds) row next after (module_run.cycle_of file (row_bytes row)) accepted fits (small row fits) next_long
         (ap (module_cycle (module_in file)) (numbers_given (map width_of ds) row fits (small row fits)) ∙ ran) p
 
     netlist_one : (netlist : List ℕ) → netlist ≡ translated_bytes file → netlist_cycle (netlist_of_file file) row ≡ got after → (answer : Answer) (left : List ℕ) →
-        netlist_call netlist (row_bytes row) next answer left → (answer ≡ Answer.Accepted) × (left ≡ row_bytes after)
+        netlist_call netlist (row_bytes row) next answer left → (answer ≡ acceptance) × (left ≡ row_bytes after)
     unfolding netlist_run.run_answer netlist_run.run_leaves netlist_of
     netlist_one netlist is ran answer left p =
         let lists : netlist_in netlist ≡ netlist_of_file file = ap netlist_in is ∙ whole.lists in

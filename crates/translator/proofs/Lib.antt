@@ -1,13 +1,13 @@
 -- Why what the translator writes is the translation of the module's tree.
 pub mod PassSteps
-pub mod MergedWords
-pub mod WordTables
-pub mod JoinedWords
+pub mod OperandTables
+pub mod MergedTables
+pub mod JoinedTables
 pub mod WrittenLists
 pub mod WrittenParts
 pub mod WrittenTrees
-pub mod StartWords
-pub mod DriveWords
+pub mod StartTable
+pub mod DriveTables
 pub mod ModulePassed
 pub mod OneResult
 pub mod CallsGive

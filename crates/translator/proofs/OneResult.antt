@@ -2,7 +2,7 @@
 use mathlib.Core.Path.{◌≡◌}
 use mathlib.Core.List.{List}
 use Prim.Native.Nat.{ℕ}
-use Rattle.tagged.specs.declared.answers.Translation.{Translation}
+use Rattle.tagged.specs.Answers.{Translation}
 use Rattle.tagged.proofs.AnswerLaws.{coincide}
 use Rattle.translator.specs.Calls.{TranslateCall}
 

@@ -1,193 +1,166 @@
 -- One pass writes the header, the declarations, the cells and the drives, one after the other; two passes measure, decide refusals 12 and 13, and then write.
 -- By the laws of writing bytes, and by the bounds on cells and drives, which hold on any bytes.
-use mathlib.Core.Path.{◌≡◌, refl, sym, ap, ◌∙◌, subst}
+use Rattle.std.specs.Prelude.{Ok, Err}
+use mathlib.Core.Path.{◌≡◌, refl, sym, ap, ap₂, ◌∙◌, subst}
 use mathlib.Core.Bool.{Bool, true, false, cond}
 use mathlib.Core.List.{List, ◌∷◌, ◌++◌}
-use Prim.Native.Nat.{ℕ, ◌+◌, ◌-◌, ◌*◌, ◌^◌, ◌≤◌, ◌<◌}
+use Prim.Native.Nat.{ℕ, ◌+◌, ◌-◌, ◌*◌, ◌^◌, ◌≤◌}
 use native.Mathlib.Nat.{zero-add}
 use native.Mathlib.Omega.{arith}
-use lib.Dec.{leb}
+use lib.Dec.{ltb}
 use lib.ListN.{length, drop, length-append}
-use borrow.Author.Tests.{leb-true, leb-false, lt-ltb, le-ltb}
-use Rattle.tagged.specs.Limits.{most_cells, most_variables, longest_module}
-use Rattle.tagged.specs.Made.{made_cells}
+use borrow.Author.Tests.{ltb-false}
+use Rattle.tagged.specs.Answers.{acceptance, refused, written, Translation, Promise}
+use Rattle.tagged.specs.Limits.{most_cells}
 use Rattle.tagged.specs.Bytes.{two_bytes, Wrote}
 use Rattle.tagged.specs.Sorts.{tag_of}
 use Rattle.tagged.specs.Fields.{all_bytes_of}
-use Rattle.tagged.specs.Answers.{Promise}
 use Rattle.tagged.specs.declared.sorts.Sort.TheVariants as Sort
-use Rattle.tagged.specs.declared.answers.Rule.{Rule}
-use Rattle.tagged.specs.declared.answers.Answer.{Answer}
-use Rattle.tagged.specs.declared.answers.Translation.{Translation}
-use Rattle.tagged.specs.declared.limits.Cells.{Cells}
-use Rattle.tagged.specs.declared.limits.CellsMade.{CellsMade}
+use Rattle.tagged.specs.declared.answers.Rule.TheVariants as Rule
+use Rattle.tagged.specs.declared.answers.Refusal.{Refusal}
+use Rattle.tagged.specs.declared.answers.Written.{Written}
 use Rattle.tagged.proofs.AllBytesLaws.{all_length}
 use Rattle.tagged.proofs.WriteLaws.{wrote_then, wrote_roomy}
 use Rattle.netlist.specs.Form.{cell_bytes, drive_bytes}
+use Rattle.netlist.specs.declared.Operand.{Operand}
 use Rattle.netlist.specs.declared.Drive.{Drive}
-use Rattle.netlist.specs.declared.Cell.{Cell}
 use Rattle.netlist.proofs.CellBytes.{cell_length, drive_length}
-use Rattle.verilog.specs.Answer.{module_answer}
-use Rattle.translate.specs.Answer.{translate_answer, translate_buffer}
-use Rattle.translate_blocks.specs.Words.{Written}
-use Rattle.translate_blocks.specs.Writing.{Translates, write_processes}
-use Rattle.translate_blocks.specs.Ends.{start_from, start_words, drives_by}
+use Rattle.translate.specs.Answer.{after_check, buffer_after}
+use Rattle.translate_blocks.specs.declared.case_log.Log.{Log}
+use Rattle.translate_blocks.specs.declared.emit.Emitter.{Emitter}
+use Rattle.translate_blocks.specs.Emitting.{Drives}
+use Rattle.translate_blocks.specs.Writing.{variables_in, write_processes}
+use Rattle.translate_blocks.specs.Working.{work, Translates}
+use Rattle.translate_blocks.specs.Ends.{start_from, start_table, drives_by}
 use Rattle.translate_blocks.proofs.Bounds.{processes_bounded}
+use Rattle.translate_blocks.proofs.EmitLaws.{emits_past}
 use Rattle.translate_blocks.proofs.StartTurns.{start_count}
 use Rattle.translate_blocks.proofs.DriveTurns.{drives_few}
-use Rattle.translator.specs.Passes.{passed_words, passed_cells, rest_of, whole_of, Passed, LogRoom, length_of, pass_answer, pass_buffer}
+use Rattle.translate_blocks.proofs.WorkLaws.{translates_as}
+use Rattle.translator.specs.declared.parts.Parts.{Parts}
+use Rattle.translator.specs.Passes.{passed, passed_cells, rest_of, whole_of, Passed, length_of, pass_answer, pass_buffer}
 
 -- how much a pass writes
 
-pub start_length : (widths : List ℕ) → length (start_words widths) ≡ 2 * length widths
+start_length : (widths : List ℕ) → length (start_table widths) ≡ 2 * length widths
 start_length widths = omega (arith, length-append (start_from 0 widths) (start_from 0 widths), start_count 0 widths)
 
-pub cells_bounded : (widths list : List ℕ) → length widths ≤ most_variables → length (passed_cells widths list) ≤ 128 * length list
-cells_bounded widths list few =
-    (processes_bounded (length widths) list (start_words widths) 0).cells (omega (arith, start_length widths))
+module _ (p : Parts) where
+  cells_bounded : length (passed_cells p) ≤ 128 * length p.list.now
+  cells_bounded =
+      (processes_bounded (length p.widths.now) p.list.now (start_table p.widths.now) 0).cells (omega (arith, start_length p.widths.now, p.few_widths))
 
-cells_long : (widths list : List ℕ) → length widths ≤ most_variables → length list ≤ longest_module → length (all_bytes_of cell_bytes (passed_cells widths list)) ≤ 2 ^ 26
-cells_long widths list few short =
-    omega (arith, all_length cell_bytes 22 (passed_cells widths list) (λ c m. cell_length c), cells_bounded widths list few)
-
-module _ (widths marks firsts list : List ℕ) where
-  pub rest_long : length widths ≤ most_variables → length marks ≤ most_variables → length list ≤ longest_module → length (rest_of widths marks firsts list) ≤ 2 ^ 27
+  rest_long : length (rest_of p) ≤ 2 ^ 27
   unfolding rest_of
-  rest_long few marked short =
-      let words : Written = passed_words widths list in
-      let drives : List Drive = drives_by marks firsts words.table in
+  rest_long =
+      let drives : List Drive = drives_by p.marks.now p.firsts.now (passed p).operands in
       omega (
         arith,
-        length-append (all_bytes_of cell_bytes words.cells) (all_bytes_of drive_bytes drives),
-        cells_long widths list few short,
+        length-append (all_bytes_of cell_bytes (passed_cells p)) (all_bytes_of drive_bytes drives),
+        all_length cell_bytes 22 (passed_cells p) (λ c m. cell_length c),
+        cells_bounded,
         all_length drive_bytes 10 drives (λ d m. omega (arith, drive_length d)),
-        drives_few (length marks) firsts words.table 0 marks,
+        drives_few (length p.marks.now) p.firsts.now (passed p).operands 0 p.marks.now,
+        p.short,
+        p.few_marks,
       )
 
-  pub whole_long : (size : ℕ) (declared : List ℕ) → length (whole_of size declared widths marks firsts list) ≡ 3 + length declared + length (rest_of widths marks firsts list)
+  pub whole_long : (size : ℕ) → length (whole_of size p) ≡ 3 + length p.declared.now + length (rest_of p)
   unfolding whole_of two_bytes
-  whole_long size declared = omega (arith, length-append declared (rest_of widths marks firsts list))
+  whole_long size = omega (arith, length-append p.declared.now (rest_of p))
 
-  -- cells, then drives
-  pub rest_passed : {out out₁ out₂ table₀ table₁ slots words slots₁ words₁ : List ℕ} {at at₁ at₂ count : ℕ} → table₀ ≡ start_words widths →
-      Translates (write_processes (length widths) list table₀ 0) out at 0 slots words 0 out₁ at₁ count table₁ slots₁ words₁ →
-      Wrote out₁ at₁ (all_bytes_of drive_bytes (drives_by marks firsts table₁)) out₂ at₂ →
-      Passed out at (rest_of widths marks firsts list) (passed_cells widths list) out₂ at₂ count
-  unfolding rest_of
-  rest_passed {out} {out₁} {out₂} {table₀} {table₁} {at = at} {at₁} {at₂} start translated drives =
-      let begun : write_processes (length widths) list table₀ 0 ≡ passed_words widths list = ap (λ (t : List ℕ). write_processes (length widths) list t 0) start in
-      let cells : (write_processes (length widths) list table₀ 0).cells ≡ passed_cells widths list = ap (λ (w : Written). w.cells) begun in
-      let left : table₁ ≡ (passed_words widths list).table = translated.left ∙ ap (λ (w : Written). w.table) begun in
-      record {
-        wrote = wrote_then (subst (λ (l : List Cell). Wrote out at (all_bytes_of cell_bytes l) out₁ at₁) cells translated.emitted.wrote)
-            (subst (λ (t : List ℕ). Wrote out₁ at₁ (all_bytes_of drive_bytes (drives_by marks firsts t)) out₂ at₂) left drives);
-        counted = omega (arith, translated.emitted.counted, ap length cells);
-      }
+-- the table is the one in which each variable is itself
+module _ (p : Parts) {table : List Operand} (start : table ≡ start_table p.widths.now) where
+  table_length : length table ≡ 2 * length p.widths.now
+  table_length = ap length start ∙ start_length p.widths.now
 
-  -- the header, the declarations, and the rest
-  pub whole_passed : {out out₁ out₂ out₃ : List ℕ} {at₁ at₂ at₃ count : ℕ} (size : ℕ) (declared : List ℕ) → Wrote out 0 (tag_of Sort.Netlist ∷ two_bytes size) out₁ at₁ →
-      Wrote out₁ at₁ declared out₂ at₂ → Passed out₂ at₂ (rest_of widths marks firsts list) (passed_cells widths list) out₃ at₃ count →
-      Passed out 0 (whole_of size declared widths marks firsts list) (passed_cells widths list) out₃ at₃ count
-  unfolding whole_of
-  whole_passed size declared head part rest = record { wrote = wrote_then head (wrote_then part rest.wrote); counted = rest.counted }
+  begun : write_processes (variables_in table) p.list.now table 0 ≡ passed p
+  begun =
+      ap (λ (k : ℕ). write_processes k p.list.now table 0) (omega (arith, table_length))
+      ∙ ap (λ (t : List Operand). write_processes (length p.widths.now) p.list.now t 0) start
 
--- a log of so many entries has room for a list of at most three times as many bytes
-pub log_enough : (entries : ℕ) {list slots words : List ℕ} → length slots ≡ entries → length words ≡ entries → entries ≤ longest_module →
-    length list ≤ 3 * entries → LogRoom list slots words
-log_enough entries slots_long words_long short enough = record { same = omega arith; enough = omega arith; short = omega arith }
+  module _ {e e₁ : Emitter} {log log₁ : Log} {table₁ : List Operand} (none : e.cells ≡ 0)
+      (translated : Translates (write_processes (variables_in table) p.list.now table e.cells) (work e log) (work e₁ log₁) table₁) where
+    given : Translates (passed p) (work e log) (work e₁ log₁) table₁
+    given = translates_as (sym (ap (λ (n : ℕ). write_processes (variables_in table) p.list.now table n) none ∙ begun)) translated
 
--- and keeps it, whatever is written into it
-pub log_stays : {list slots words slots₁ words₁ : List ℕ} → length slots₁ ≡ length slots → length words₁ ≡ length words → LogRoom list slots words →
-    LogRoom list slots₁ words₁
-log_stays {slots = slots} Slots-kept words-kept room =
-    log_enough (length slots) Slots-kept (omega (arith, room.same)) room.short room.enough
+    -- how far the index has moved past the cells
+    pub cells_reach : e₁.at ≤ e.at + 2 ^ 26
+    cells_reach = omega (arith, emits_past given.emitted, cells_bounded p, p.short)
 
--- how far the index has moved past the cells, and past the header
-pub cells_reach : (widths list : List ℕ) {out out₁ table₀ table₁ slots words slots₁ words₁ : List ℕ} {at at₁ count : ℕ} → length widths ≤ most_variables →
-    length list ≤ longest_module → table₀ ≡ start_words widths →
-    Translates (write_processes (length widths) list table₀ 0) out at 0 slots words 0 out₁ at₁ count table₁ slots₁ words₁ → at₁ ≤ at + 2 ^ 26
-cells_reach widths list {at = at} {at₁} few short start translated =
-    let long : length (all_bytes_of cell_bytes (write_processes (length widths) list (start_words widths) 0).cells) ≤ 2 ^ 26 = cells_long widths list few short in
-    let past = translated.emitted.wrote.past in
-    omega (arith, past, ap (λ (t : List ℕ). length (all_bytes_of cell_bytes (write_processes (length widths) list t 0).cells)) start)
+    -- cells, then drives
+    pub rest_passed : {e₂ : Emitter} → Drives e₁ (drives_by p.marks.now p.firsts.now table₁) e₂ →
+        Passed e.out.now e.at (rest_of p) (passed_cells p) e₂.out.now e₂.at e₂.cells
+    unfolding rest_of
+    rest_passed {e₂} drives =
+        let drawn : Drives e₁ (drives_by p.marks.now p.firsts.now (passed p).operands) e₂ =
+        subst (λ (t : List Operand). Drives e₁ (drives_by p.marks.now p.firsts.now t) e₂) given.left drives in
+        record {
+          wrote = wrote_then given.emitted.appends.wrote drawn.appends.wrote;
+          counted = omega (arith, drives.same_count, given.emitted.counted, none);
+        }
 
+-- where the declarations begin
 pub head_past : {out out₁ : List ℕ} {at₁ tag : ℕ} (size : ℕ) → Wrote out 0 (tag ∷ two_bytes size) out₁ at₁ → at₁ ≡ 3
 unfolding two_bytes
 head_past size head = omega (arith, head.past)
 
+-- the header, the declarations, and the rest
+pub whole_passed : (p : Parts) {out out₁ out₂ out₃ : List ℕ} {at₁ at₂ at₃ count : ℕ} (size : ℕ) → Wrote out 0 (tag_of Sort.Netlist ∷ two_bytes size) out₁ at₁ →
+    Wrote out₁ at₁ p.declared.now out₂ at₂ → Passed out₂ at₂ (rest_of p) (passed_cells p) out₃ at₃ count →
+    Passed out 0 (whole_of size p) (passed_cells p) out₃ at₃ count
+unfolding whole_of
+whole_passed p size head part rest = record { wrote = wrote_then head (wrote_then part rest.wrote); counted = rest.counted }
+
 -- what the first pass measures
-module _ (declared widths marks firsts list : List ℕ) {buffer left : List ℕ} {at count : ℕ}
-    (measured : Passed buffer 0 (whole_of 0 declared widths marks firsts list) (passed_cells widths list) left at count) where
+module _ (p : Parts) {buffer left : List ℕ} {at count : ℕ} (measured : Passed buffer 0 (whole_of 0 p) (passed_cells p) left at count) where
   pub at_least : 3 ≤ at
-  at_least = omega (arith, measured.wrote.past, whole_long widths marks firsts list 0 declared)
+  at_least = omega (arith, measured.wrote.past, whole_long p 0)
 
-  pub at_most : length declared + length list ≤ longest_module → length widths ≤ most_variables → length marks ≤ most_variables → at ≤ 2 ^ 28
-  at_most short few marked =
-      omega (arith, measured.wrote.past, whole_long widths marks firsts list 0 declared, rest_long widths marks firsts list few marked (omega arith))
+  pub at_most : at ≤ 2 ^ 28
+  at_most = omega (arith, measured.wrote.past, whole_long p 0, rest_long p, p.short)
 
--- what is answered then, and what the second pass leaves
-module _ (declared widths marks firsts list out : List ℕ) {buffer left : List ℕ} {at count : ℕ}
-    (measured : Passed buffer 0 (whole_of 0 declared widths marks firsts list) (passed_cells widths list) left at count) where
+-- where neither 12 nor 13 applies there is room, and the answer is what was measured
+decided : (cells size room : ℕ) {w : Written} → Ok w ≡ after_check acceptance cells size room →
+    (size ≤ room) × (after_check acceptance cells size room ≡ Ok (written size cells))
+decided cells size room {w} e = go (ltb most_cells cells) (ltb room size) refl (sym e)
+  where
+    go : (many short : Bool) → ltb room size ≡ short →
+        cond many (Err (refused Rule.Cells 0)) (cond {A = Translation} short (Err (refused Rule.Buffer 0)) (Ok (written size cells))) ≡ Ok w →
+        (size ≤ room) × (cond many (Err (refused Rule.Cells 0)) (cond short (Err (refused Rule.Buffer 0)) (Ok (written size cells))) ≡ Ok (written size cells))
+    go true short t p = absurd (let z : ◌≡◌ {A = ℕ} 0 1 = cc in omega arith)
+    go false true t p = absurd (let z : ◌≡◌ {A = ℕ} 0 1 = cc in omega arith)
+    go false false t p = (omega (arith, ltb-false room size t), refl)
+
+-- what is answered by what the first pass measured, and what the second leaves
+module _ (p : Parts) (out : List ℕ) {buffer left : List ℕ} {at count : ℕ} (measured : Passed buffer 0 (whole_of 0 p) (passed_cells p) left at count) where
   abbrev Kept : Translation → List ℕ → Type 0
-  Kept answer held = Promise (pass_answer declared widths marks firsts list (length out)) (pass_buffer declared widths marks firsts list out) answer held
+  Kept answer held = Promise (pass_answer p (length out)) (pass_buffer p out) answer held
 
-  -- how many cells the constructor lets through
-  cells_over : (made : CellsMade) → made ≡ made_cells count → made ≡ CellsMade.Refused → most_cells < count
-  cells_over made e refused = go (leb count most_cells) refl (sym e ∙ refused)
-    where
-      go : (small : Bool) → leb count most_cells ≡ small → cond small (CellsMade.Good (record { count = count })) CellsMade.Refused ≡ CellsMade.Refused → most_cells < count
-      go true t p = absurd (let z : ◌≡◌ {A = ℕ} 0 1 = cc in omega arith)
-      go false t p = omega (arith, leb-false count most_cells t)
+  answer_is : after_check acceptance count at (length out) ≡ pass_answer p (length out)
+  unfolding pass_answer
+  answer_is = ap₂ (λ (cells size : ℕ). after_check acceptance cells size (length out)) measured.counted (omega (arith, measured.wrote.past))
 
-  cells_within : (made : CellsMade) (good : Cells) → made ≡ made_cells count → made ≡ CellsMade.Good good → count ≤ most_cells
-  cells_within made good e let_through = go (leb count most_cells) refl (sym e ∙ let_through)
-    where
-      go : (small : Bool) → leb count most_cells ≡ small → cond small (CellsMade.Good (record { count = count })) CellsMade.Refused ≡ CellsMade.Good good → count ≤ most_cells
-      go true t p = leb-true count most_cells t
-      go false t p = absurd (let z : ◌≡◌ {A = ℕ} 0 1 = cc in omega arith)
+  pub refused_kept : {e : Refusal} → Err e ≡ after_check acceptance count at (length out) → Kept (Err e) out
+  unfolding pass_buffer
+  refused_kept {e} is = let told = is ∙ answer_is in record { answered = told; leaves = ap (λ (t : Translation). buffer_after t (whole_of (length_of p - 3) p) out) told }
 
-  pub over_cells : (made : CellsMade) → made ≡ made_cells count → made ≡ CellsMade.Refused → Kept (Translation.Refused Rule.Cells 0) out
-  unfolding pass_answer pass_buffer
-  over_cells made e refused =
-      let many : most_cells < length (passed_cells widths list) = omega (arith, cells_over made e refused, measured.counted) in
-      record { answered = rw (lt-ltb most_cells (length (passed_cells widths list)) many); leaves = rw (lt-ltb most_cells (length (passed_cells widths list)) many) }
-
-  module _ (made : CellsMade) (good : Cells) (e : made ≡ made_cells count) (let_through : made ≡ CellsMade.Good good) where
-    few_cells : length (passed_cells widths list) ≤ most_cells
-    few_cells = omega (arith, cells_within made good e let_through, measured.counted)
-
-    pub over_room : length out < at → Kept (Translation.Refused Rule.Buffer 0) out
-    unfolding pass_answer pass_buffer
-    over_room short =
-        let long : length out < length_of declared widths marks firsts list = omega (arith, measured.wrote.past) in
-        record {
-          answered = rw (le-ltb most_cells (length (passed_cells widths list)) few_cells, lt-ltb (length out) (length_of declared widths marks firsts list) long);
-          leaves = rw (le-ltb most_cells (length (passed_cells widths list)) few_cells, lt-ltb (length out) (length_of declared widths marks firsts list) long);
-        }
-
-    pub both_passed : {held : List ℕ} {end cells : ℕ} → at ≤ length out →
-        Passed out 0 (whole_of (at - 3) declared widths marks firsts list) (passed_cells widths list) held end cells → Kept (Translation.Written end cells) held
-    unfolding pass_answer pass_buffer
-    both_passed {held} {end} {cells} room written =
-        let size : ℕ = length_of declared widths marks firsts list in
-        let whole : List ℕ = whole_of (at - 3) declared widths marks firsts list in
-        let same : length whole ≡ size =
-        whole_long widths marks firsts list (at - 3) declared ∙ sym (whole_long widths marks firsts list 0 declared) in
-        let measured-size : at ≡ size = omega (arith, measured.wrote.past) in
-        let fits : size ≤ length out = omega arith in
-        let end_is : end ≡ size = omega (arith, written.wrote.past, same) in
-        let now-held = wrote_roomy written.wrote (omega arith) in
-        rw (le-ltb most_cells (length (passed_cells widths list)) few_cells, le-ltb (length out) size fits, end_is, written.counted)
-        (record {
-          answered = refl;
-          leaves = now-held ∙ ap (λ (k : ℕ). whole ++ drop k out) (zero-add (length whole) ∙ same)
-              ∙ ap (λ (k : ℕ). whole_of (k - 3) declared widths marks firsts list ++ drop size out) measured-size;
-        })
-
--- a refusal of the check is that of translating, and leaves the buffer as it was
-pub check_refused : (file out : List ℕ) {answer : Answer} {rule : Rule} {place : ℕ} → answer ≡ module_answer file → answer ≡ Answer.Refused rule place →
-    Promise (translate_answer file (length out)) (translate_buffer file out) (Translation.Refused rule place) out
-unfolding translate_answer translate_buffer
-check_refused file out {rule = rule} {place} e refused =
-    let no : module_answer file ≡ Answer.Refused rule place = sym e ∙ refused in
-    record { answered = rw no; leaves = rw no }
+  pub both_passed : {w : Written} → Ok w ≡ after_check acceptance count at (length out) → {held : List ℕ} {end cells : ℕ} →
+      Passed out 0 (whole_of (at - 3) p) (passed_cells p) held end cells → Kept (Ok (written end cells)) held
+  unfolding pass_buffer
+  both_passed is {held} {end} {cells} second =
+      let size : ℕ = length_of p in
+      let whole : List ℕ = whole_of (at - 3) p in
+      let same : length whole ≡ size = whole_long p (at - 3) ∙ sym (whole_long p 0) in
+      let measured_size : at ≡ size = omega (arith, measured.wrote.past) in
+      let fine = decided count at (length out) is in
+      let told : Ok (written at count) ≡ pass_answer p (length out) = sym fine.1 ∙ answer_is in
+      record {
+        answered =
+            ap₂ (λ (l n : ℕ). Ok (written l n)) (omega (arith, second.wrote.past, same, measured_size)) (omega (arith, second.counted, measured.counted)) ∙ told;
+        leaves =
+            wrote_roomy second.wrote (omega (arith, fine.0, same, measured_size))
+            ∙ ap (λ (k : ℕ). whole ++ drop k out) (zero-add (length whole) ∙ same ∙ sym measured_size)
+            ∙ ap (λ (k : ℕ). whole_of (k - 3) p ++ drop at out) measured_size
+            ∙ ap (λ (t : Translation). buffer_after t (whole_of (size - 3) p) out) told;
+      }

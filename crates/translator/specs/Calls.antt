@@ -1,12 +1,10 @@
 -- Calling a run cycle after cycle: what a caller may see, by the run's contract alone. Before each call the caller puts that cycle's inputs into the row that
 -- the last call left.
 use Rattle.std.specs.Prelude.{◌≡◌, List, [], ◌∷◌, ℕ, ◌*◌, length}
-use Rattle.tagged.specs.Answers.{Promise}
+use Rattle.tagged.specs.Answers.{Promise, Answer, Translation}
 use Rattle.tagged.specs.Declarations.{Declaration}
 use Rattle.tagged.specs.Rows.{row_bytes, row_numbers}
 use Rattle.tagged.specs.Cycles.{with_inputs}
-use Rattle.tagged.specs.declared.answers.Answer.{Answer}
-use Rattle.tagged.specs.declared.answers.Translation.{Translation}
 use Rattle.netlist.specs.Run as netlist_run
 use Rattle.verilog.specs.Run as module_run
 use Rattle.translate.specs.Answer.{translate_answer, translate_buffer}

@@ -12,7 +12,7 @@ use Rattle.words.specs.Widths.{is_width, fits_width, index_within}
 use Rattle.tagged.specs.Fields.{Placed, unplaced, all_bytes_of}
 use Rattle.tagged.specs.Declarations.{Declaration, input, register, width_of, variable_width, register_at, declaration_bytes, value_broken}
 use Rattle.tagged.specs.declared.answers.Rule.{Rule}
-use Rattle.tagged.specs.declared.answers.Answer.{Answer}
+use Rattle.tagged.specs.Answers.{acceptance}
 use Rattle.verilog.specs.Tree.{Expression, constant, variable, fixed_bit, chosen_bit, one, two, Statement, assign, assign_bit, if_else, case, Block, end, ◌then◌, Items, default, item, Module}
 use Rattle.verilog.specs.Form.{expression_bytes, statement_bytes, block_payload, process_bytes}
 use Rattle.verilog.specs.Nodes.{Node, past, expression_nodes, statement_nodes, block_nodes, items_nodes, process_nodes, declaration_nodes, module_nodes}
@@ -116,7 +116,7 @@ fine_declarations_fit (d ∷ l) at h =
     more_widths (fine_width d (fine_first h).value) (fine_declarations_fit l (at + length (declaration_bytes d)) (fine_rest h))
 
 -- no rule has a place in a module that is accepted, so each field passes after those before it
-pub accepted_fine : (base : ℕ) (m : Module) → tree_answer base m ≡ Answer.Accepted → AllFine m.declarations (module_nodes base m)
+pub accepted_fine : (base : ℕ) (m : Module) → tree_answer base m ≡ acceptance → AllFine m.declarations (module_nodes base m)
 unfolding tree_answer module_broken breaks
 accepted_fine base m e = go (accepted_none (module_broken base m) module_rules e)
   where
@@ -133,7 +133,7 @@ accepted_fine base m e = go (accepted_none (module_broken base m) module_rules e
           bit_number = nowhere_passes (test Rule.BitNumber) [] s.1 bits;
         }
 
-pub accepted_typed : (base : ℕ) (m : Module) → tree_answer base m ≡ Answer.Accepted → TypedModule m
+pub accepted_typed : (base : ℕ) (m : Module) → tree_answer base m ≡ acceptance → TypedModule m
 unfolding module_nodes
 accepted_typed base m e =
     let both = fine_split (declaration_nodes base m.declarations) (accepted_fine base m e) in

@@ -13,8 +13,7 @@ use Rattle.words.specs.Widths.{is_width, fits_width, index_within}
 use Rattle.tagged.specs.Limits.{most_processes}
 use Rattle.tagged.specs.Fields.{unplaced}
 use Rattle.tagged.specs.Stands.{Stands}
-use Rattle.tagged.specs.Declarations.{Declaration, input, register, is_register, register_at, variable_width}
-use Rattle.tagged.specs.Declarations.{value_broken, name_broken, count_broken, declaration_breaks}
+use Rattle.tagged.specs.Declarations.{Declaration, input, register, is_register, register_at, variable_width, value_broken, name_broken, count_broken, declaration_breaks}
 use Rattle.tagged.specs.declared.sorts.Kind.{Kind}
 use Rattle.tagged.specs.declared.answers.Rule.{Rule}
 use Rattle.tagged.proofs.TestLaws.{or_left, or_right, or_cases, unlike, unlike_ne}
@@ -22,13 +21,8 @@ use Rattle.tagged.proofs.DeclarationTests.{no_width, width_no, not_fits, fits_no
 use Rattle.tagged.proofs.RiseLaws.{before_earlier, earlier_before, stands_in, in_stands}
 use Rattle.verilog.specs.Tree.{Expression, constant, variable, fixed_bit, chosen_bit, one, two, Statement, assign, assign_bit, if_else, case, Module}
 use Rattle.verilog.specs.Nodes.{What, declaration, process, expression, statement, item_of, Node, module_nodes}
-use Rattle.verilog.specs.Rules.{expression_width, declarations_of, count_processes, some_node}
-use Rattle.verilog.specs.Rules.{assigns_by, reads_by, by_field, is_assignment, is_blocking, same_kind}
-use Rattle.verilog.specs.Rules.{constant_broken, missing_variable, operands_differ, statement_differs, read_outside, write_outside, breaks}
-use Rattle.verilog.specs.Breaks.{FieldAt, Declares, number_zero, number_more, Reads, reads_whole, reads_fixed, reads_chosen, Assigns, assigns_whole, assigns_bit}
-use Rattle.verilog.specs.Breaks.{Breaks, declared, constant_width, constant_value, process_over, read_missing, assigned_missing, assigned_input}
-use Rattle.verilog.specs.Breaks.{value_target, both_operands, item_selector, condition_wide, bit_value_wide}
-use Rattle.verilog.specs.Breaks.{bit_read, bit_assigned, index_wide, both_kinds, two_processes, read_elsewhere}
+use Rattle.verilog.specs.Rules.{expression_width, declarations_of, count_processes, some_node, assigns_by, reads_by, by_field, is_assignment, is_blocking, same_kind, constant_broken, missing_variable, operands_differ, statement_differs, read_outside, write_outside, breaks}
+use Rattle.verilog.specs.Breaks.{FieldAt, Declares, number_zero, number_more, Reads, reads_whole, reads_fixed, reads_chosen, Assigns, assigns_whole, assigns_bit, Breaks, declared, constant_width, constant_value, process_over, read_missing, assigned_missing, assigned_input, value_target, both_operands, item_selector, condition_wide, bit_value_wide, bit_read, bit_assigned, index_wide, both_kinds, two_processes, read_elsewhere}
 use Rattle.verilog.proofs.RisingPlaces.{earlier_smaller_place}
 
 -- 6

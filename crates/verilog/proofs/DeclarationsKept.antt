@@ -1,5 +1,6 @@
 -- The first place that breaks a rule in a module is that of its declarations, which are the first of its fields, or else that of its processes after them.
 -- So a module without refusal 3, 4 or 5 has declarations without it. By induction on the declarations.
+use Rattle.std.specs.Prelude.{Some, None}
 use mathlib.Core.Path.{◌≡◌, refl, sym, ap, ap₂, ◌∙◌}
 use mathlib.Core.Bool.{Bool}
 use mathlib.Core.List.{List, [], ◌∷◌, ◌++◌, map, map-append}
@@ -10,7 +11,7 @@ use Rattle.tagged.specs.Fields.{unplaced, all_bytes_of, placed_by}
 use Rattle.tagged.specs.Refusals.{first_broken, or_else}
 use Rattle.tagged.specs.Declarations.{Declaration, declaration_bytes, declaration_breaks, declaration_broken}
 use Rattle.tagged.specs.declared.answers.Rule.{Rule}
-use Rattle.tagged.specs.declared.answers.Found.{Found}
+use Rattle.tagged.specs.Answers.{Found}
 use Rattle.tagged.proofs.RefusalLaws.{nowhere_both}
 use Rattle.tagged.proofs.FoundLaws.{found_append}
 use Rattle.verilog.specs.Tree.{Module}
@@ -19,9 +20,9 @@ use Rattle.verilog.specs.Rules.{declarations_of, breaks, module_broken}
 
 -- rules 3, 4 and 5 on declarations
 pub record DeclarationsPass (base : ℕ) (ds : List Declaration) : Type 0 where
-  pub value : declaration_broken Rule.Value base ds ≡ Found.Nowhere
-  pub name : declaration_broken Rule.Name base ds ≡ Found.Nowhere
-  pub count : declaration_broken Rule.Count base ds ≡ Found.Nowhere
+  pub value : declaration_broken Rule.Value base ds ≡ None
+  pub name : declaration_broken Rule.Name base ds ≡ None
+  pub count : declaration_broken Rule.Count base ds ≡ None
 
 abbrev pub declaration_node : Declaration → Node
 declaration_node d = record { in_process = 0; what = declaration d }
@@ -64,7 +65,7 @@ module _ (ds : List Declaration) (all : List Node) where
   declared_found rule before at (d ∷ l) =
       let test = declared_test rule (map declaration_node before) d ∙ ap (λ (k : List Declaration). declaration_breaks rule k d) (nodes_back before) in
       let later = declared_found rule (before ++ (d ∷ [])) (at + length (declaration_bytes d)) l in
-      ap₂ (λ (t : Bool) (f : Found). choose t (λ _. Found.At at) (λ _. f)) test (rw map-append at later)
+      ap₂ (λ (t : Bool) (f : Found). choose t (λ _. Some at) (λ _. f)) test (rw map-append at later)
 
 module _ (m : Module) (base : ℕ) where
   -- the first place among the declarations, or else among the fields of the processes, which stand after all declarations
@@ -83,5 +84,5 @@ module _ (m : Module) (base : ℕ) where
       (declared_found m.declarations (unplaced (module_nodes base m)) rule [] base m.declarations) (declared_nodes base m.declarations)
 
   -- no place in the module: none among its declarations
-  pub declarations_kept : (rule : Rule) → module_broken base m rule ≡ Found.Nowhere → declaration_broken rule base m.declarations ≡ Found.Nowhere
+  pub declarations_kept : (rule : Rule) → module_broken base m rule ≡ None → declaration_broken rule base m.declarations ≡ None
   declarations_kept rule e = (nowhere_both _ _ (sym (module_found rule) ∙ e)).0

@@ -1,5 +1,7 @@
 -- Expressions and their bytes give each other back: what is read without a fault is written as it stood, and what fits its bytes is read as it was.
 -- By induction on the levels that may be opened.
+use Rattle.tagged.specs.Answers.{fault_at}
+use Rattle.std.specs.Prelude.{Ok, Err}
 use mathlib.Core.Path.{◌≡◌, refl, sym, ap, ap₂, ◌∙◌, subst}
 use mathlib.Core.List.{List, [], ◌∷◌, ◌++◌}
 use Prim.Native.Nat.{ℕ, zero, suc, ◌+◌, ◌^◌, ◌≤◌, ◌<◌}
@@ -7,12 +9,9 @@ use native.Mathlib.Omega.{arith}
 use lib.ListN.{length, get_or, take, drop, length-append}
 use Rattle.tagged.specs.Bytes.{AllBytes, four_bytes, four_of}
 use Rattle.tagged.specs.Sorts.{tag_of, on_expression, is_expression}
-use Rattle.tagged.specs.Fields.{field_bytes, open_of, on_field, field_by, then_by, ended}
+use Rattle.tagged.specs.Fields.{faultless, field_bytes, open_of, on_field, field_by, then_by, ended, Opened}
 use Rattle.tagged.specs.declared.sorts.ExpressionSort.{ExpressionSort}
 use Rattle.tagged.specs.declared.sorts.Sort.{Sort}
-use Rattle.tagged.specs.declared.fields.Opened.{Opened}
-use Rattle.tagged.specs.declared.fields.Judged.{Judged}
-use Rattle.tagged.specs.declared.fields.Step.{Step}
 use Rattle.tagged.proofs.ByteLaws.{bytes_four, bytes_drop, four_back}
 use Rattle.tagged.proofs.ListBytes.{field_length, Stands}
 use Rattle.verilog.specs.Tree.{Expression, constant, variable, fixed_bit, chosen_bit, one, two}
@@ -34,8 +33,8 @@ unfolding expression_in
 expression_front zero l = go (open_of 0 0 l)
   where
     go : (o : Opened) → on_field o (λ s n. no_expression) no_expression ≡ no_expression
-    go (Opened.Field s n) = refl
-    go (Opened.Refused x) = refl
+    go (Ok (s, n)) = refl
+    go (Err x) = refl
 expression_front (suc d) l = refl
 
 -- payloads of fixed bytes
@@ -76,13 +75,13 @@ ExpressionReturns d = Returns is_expression (expression_body d) (expression_at d
 
 -- the expression at the front, by what is known of a level
 module _ (d : ℕ) (known : ExpressionReturns d) (base owner : ℕ) (l : List ℕ) (h : AllBytes l) where
-  pub expression_last : then_by (field_by (expression_body d)) ended base owner l ≡ Judged.Fine → expression_bytes (expression_in d l) ≡ l
+  pub expression_last : then_by (field_by (expression_body d)) ended base owner l ≡ faultless → expression_bytes (expression_in d l) ≡ l
   expression_last e =
       ap expression_bytes (sym (expression_front d l)) ∙ last_returns is_expression (expression_body d)
       (expression_at d) expression_bytes expression_known known no_expression base owner l h e
 
 pub expression_parts_lem : (d : ℕ) → ExpressionReturns d → (e : ExpressionSort) (base owner : ℕ) (l : List ℕ) → AllBytes l →
-    expression_parts (field_by (expression_body d)) e base owner l ≡ Judged.Fine → expression_bytes (expression_with (expression_in d) e l) ≡ field_bytes
+    expression_parts (field_by (expression_body d)) e base owner l ≡ faultless → expression_bytes (expression_with (expression_in d) e l) ≡ field_bytes
     (tag_of (Sort.Expression e)) l
 unfolding expression_bytes
 expression_parts_lem d known ExpressionSort.Constant base owner l h fine = ap (expression_field ExpressionSort.Constant)
@@ -105,18 +104,18 @@ pub expression_returns : (d : ℕ) → ExpressionReturns d
 unfolding expression_body
 expression_returns zero base s l h fine = absurd (let z : ◌≡◌ {A = ℕ} 0 1 = cc in omega arith)
 expression_returns (suc d) base s l h fine =
-    let c = expression_fine s (λ e. expression_parts (field_by (expression_body d)) e (base + 3) base l) base fine in
+    let c = expression_fine s (λ e. expression_parts (field_by (expression_body d)) e (base + 3) base l) (fault_at base) fine in
     subst (λ (s : Sort). Returned is_expression (expression_body (suc d)) (expression_at (suc d)) expression_bytes s l) (sym c.1)
     (record { is = refl; written = expression_parts_lem d (expression_returns d) c.0 (base + 3) base l h c.2 })
 
 -- what is read without a fault is written as it stood
-pub expression_written : (d base owner : ℕ) (l : List ℕ) (m : ℕ) → AllBytes l → field_by (expression_body d) base owner l ≡ Step.Past m →
+pub expression_written : (d base owner : ℕ) (l : List ℕ) (m : ℕ) → AllBytes l → field_by (expression_body d) base owner l ≡ Ok m →
     take m l ≡ expression_bytes (expression_in d l)
 expression_written d base owner l m h e =
     front_written is_expression (expression_body d) (expression_at d) expression_bytes expression_known (expression_returns d) no_expression base owner l h m e
     ∙ ap expression_bytes (expression_front d l)
 
-pub expression_after : (d base owner : ℕ) (l : List ℕ) (m : ℕ) → field_by (expression_body d) base owner l ≡ Step.Past m → after_front l ≡ drop m l
+pub expression_after : (d base owner : ℕ) (l : List ℕ) (m : ℕ) → field_by (expression_body d) base owner l ≡ Ok m → after_front l ≡ drop m l
 expression_after d base owner l m e = after_passed (expression_body d) base owner l m e
 
 -- a fault does not depend on where an expression stands
@@ -136,7 +135,7 @@ pub expression_anywhere : (d : ℕ) → AnywhereBody (expression_body d)
 unfolding expression_body
 expression_anywhere zero a b s l fine = absurd (let z : ◌≡◌ {A = ℕ} 0 1 = cc in omega arith)
 expression_anywhere (suc d) a b s l fine =
-    let c = expression_fine s (λ e. expression_parts (field_by (expression_body d)) e (a + 3) a l) a fine in
+    let c = expression_fine s (λ e. expression_parts (field_by (expression_body d)) e (a + 3) a l) (fault_at a) fine in
     rw c.1 (parts_anywhere d (expression_anywhere d) c.0 (a + 3) a (b + 3) b l c.2)
 
 -- to bytes
@@ -243,7 +242,7 @@ expression_stands (suc d) (two op a b) fits deep long =
 
 module _ (d : ℕ) (e : Expression) (fits : FitsExpression e) (deep : expression_depth e ≤ d) (long : length (expression_bytes e) ≤ longest_field) (after : List ℕ) where
   -- what is written has no fault, and is read as it was
-  pub expression_passed : (base owner : ℕ) → field_by (expression_body d) base owner (expression_bytes e ++ after) ≡ Step.Past (length (expression_bytes e))
+  pub expression_passed : (base owner : ℕ) → field_by (expression_body d) base owner (expression_bytes e ++ after) ≡ Ok (length (expression_bytes e))
   expression_passed base owner = stands_passed (expression_stands d e fits deep long) after base owner
 
   pub expression_read : expression_in d (expression_bytes e ++ after) ≡ e

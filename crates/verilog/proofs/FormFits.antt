@@ -1,5 +1,7 @@
 -- The tree that is read from a file without a fault is within the limits: its numbers fit their bytes and it is not too deep.
 -- By induction on the levels that may be opened.
+use Rattle.tagged.specs.Answers.{fault_at}
+use Rattle.std.specs.Prelude.{Ok}
 use mathlib.Core.Path.{◌≡◌, refl, sym, subst}
 use mathlib.Core.Bool.{Bool, true, false}
 use mathlib.Core.List.{List, [], ◌∷◌}
@@ -10,16 +12,14 @@ use lib.ListN.{get_or, drop}
 use Rattle.tagged.specs.Limits.{longest_module}
 use Rattle.tagged.specs.Bytes.{AllBytes, four_of}
 use Rattle.tagged.specs.Sorts.{is_statement, is_sort, is_declaration}
-use Rattle.tagged.specs.Fields.{Judge, field_by, then_by, ended, many, until_end, read_placed, unplaced}
+use Rattle.tagged.specs.Fields.{faultless, Judge, field_by, then_by, ended, many, until_end, read_placed, unplaced}
 use Rattle.tagged.specs.Files.{file_answer}
 use Rattle.tagged.specs.Declarations.{Declaration, input, declaration_body, declaration_in, declaration_read, declarations_step, declarations_at, declarations_in, after_declarations}
 use Rattle.tagged.specs.declared.sorts.DeclarationSort.{DeclarationSort}
 use Rattle.tagged.specs.declared.sorts.StatementSort.{StatementSort}
 use Rattle.tagged.specs.declared.sorts.ExpressionSort.{ExpressionSort}
 use Rattle.tagged.specs.declared.sorts.Sort.{Sort}
-use Rattle.tagged.specs.declared.fields.Judged.{Judged}
-use Rattle.tagged.specs.declared.fields.Step.{Step}
-use Rattle.tagged.specs.declared.answers.Answer.{Answer}
+use Rattle.tagged.specs.Answers.{acceptance}
 use Rattle.tagged.proofs.ByteLaws.{bytes_drop, four_lt}
 use Rattle.tagged.proofs.FileLaws.{file_fits}
 use Rattle.tagged.proofs.DeclarationLaws.{declaration_sort_lem, other_sort}
@@ -28,8 +28,7 @@ use Rattle.verilog.specs.Tree.{Expression, Statement, Block, end, Items}
 use Rattle.verilog.specs.Form.{expression_body, expression_parts, constant_body, statement_parts, statement_body, block_body, item_body, process_body, module_form}
 use Rattle.verilog.specs.Reading.{no_expression, front_by, after_front, block_front, expression_with, expression_in, block_from, ReadItem, items_from, after_items, statement_with, statement_in, block_in, item_in, tree_in, module_in}
 use Rattle.verilog.specs.Fits.{FitsOne, FitsFour, FitsExpression, FitsStatement, FitsBlock, FitsItems, FitsDeclaration, All, expression_depth, statement_depth, statements_depth, items_depth, declarations_depth, processes_depth, module_depth, FitsModule}
-use Rattle.tagged.proofs.JudgeLaws.{then_tells, fixed_tells}
-use Rattle.tagged.proofs.JudgeLaws.{sort_fine}
+use Rattle.tagged.proofs.JudgeLaws.{then_tells, fixed_tells, sort_fine}
 use Rattle.verilog.proofs.SortChoices.{expression_fine, statement_fine}
 use Rattle.verilog.proofs.FineLaws.{Holds, HoldsNext, next_holds, many_holds, until_holds}
 use Rattle.verilog.proofs.ExpressionBytes.{expression_at, expression_front}
@@ -51,7 +50,7 @@ ExpressionsWithin d = Holds (expression_body d) (expression_at d) (ExpressionWit
 
 -- the expression at the front, and then more
 module _ (d : ℕ) (inner : ExpressionsWithin d) (next : Judge) (base owner : ℕ) (l : List ℕ) (h : AllBytes l)
-    (fine : then_by (field_by (expression_body d)) next base owner l ≡ Judged.Fine) where
+    (fine : then_by (field_by (expression_body d)) next base owner l ≡ faultless) where
   expression_next : HoldsNext (expression_body d) (expression_at d) (ExpressionWithin d) inner no_expression owner l next
   expression_next = next_holds (expression_body d) (expression_at d) (ExpressionWithin d) inner no_expression base owner l next h fine
 
@@ -59,7 +58,7 @@ module _ (d : ℕ) (inner : ExpressionsWithin d) (next : Judge) (base owner : �
   expression_here = rw (expression_front d l) at expression_next.here
 
 parts_within : (d : ℕ) → ExpressionsWithin d → (e : ExpressionSort) (base owner : ℕ) (l : List ℕ) → AllBytes l →
-    expression_parts (field_by (expression_body d)) e base owner l ≡ Judged.Fine → ExpressionWithin (suc d) (expression_with (expression_in d) e l)
+    expression_parts (field_by (expression_body d)) e base owner l ≡ faultless → ExpressionWithin (suc d) (expression_with (expression_in d) e l)
 unfolding FitsExpression expression_depth
 parts_within d inner ExpressionSort.Constant base owner l h fine = record { fits = (h 0, four_fits (drop 1 l) (bytes_drop 1 l h)); deep = omega arith }
 parts_within d inner ExpressionSort.Variable base owner l h fine = record { fits = h 0; deep = omega arith }
@@ -85,7 +84,7 @@ pub expressions_within : (d : ℕ) → ExpressionsWithin d
 unfolding expression_body
 expressions_within zero base s l h fine = absurd (let z : ◌≡◌ {A = ℕ} 0 1 = cc in omega arith)
 expressions_within (suc d) base s l h fine =
-    let c = expression_fine s (λ e. expression_parts (field_by (expression_body d)) e (base + 3) base l) base fine in
+    let c = expression_fine s (λ e. expression_parts (field_by (expression_body d)) e (base + 3) base l) (fault_at base) fine in
     rw c.1 (parts_within d (expressions_within d) c.0 (base + 3) base l h c.2)
 
 -- statements, blocks, items
@@ -133,7 +132,7 @@ from_items d (i ∷ l) b all last =
     record { fits = (all.0.width, all.0.value, all.0.fits, later.fits); deep = omega arith }
 
 -- a payload's statements
-statements_within : (d : ℕ) → LevelWithin d → (base owner : ℕ) (l : List ℕ) → AllBytes l → until_end (field_by (statement_body d)) base owner l ≡ Judged.Fine →
+statements_within : (d : ℕ) → LevelWithin d → (base owner : ℕ) (l : List ℕ) → AllBytes l → until_end (field_by (statement_body d)) base owner l ≡ faultless →
     BlockWithin (suc d) (block_in (suc d) l)
 unfolding block_in
 statements_within d level base owner l h fine =
@@ -146,12 +145,12 @@ unfolding FitsExpression
 constants_within d base s l h fine = (h 0, four_fits (drop 1 l) (bytes_drop 1 l h))
 
 module _ (d : ℕ) (level : LevelWithin d) where
-  block_next : (next : Judge) (base owner : ℕ) (l : List ℕ) → AllBytes l → then_by (field_by (block_body d)) next base owner l ≡ Judged.Fine →
+  block_next : (next : Judge) (base owner : ℕ) (l : List ℕ) → AllBytes l → then_by (field_by (block_body d)) next base owner l ≡ faultless →
       HoldsNext (block_body d) (block_at d) (BlockWithin d) level.block end owner l next
   block_next next base owner l h fine = next_holds (block_body d) (block_at d) (BlockWithin d) level.block end base owner l next h fine
 
   items_within : (base owner : ℕ) (l : List ℕ) → AllBytes l →
-      then_by (many (is_sort Sort.Item) (field_by (item_body d))) (then_by (field_by (block_body d)) ended) base owner l ≡ Judged.Fine →
+      then_by (many (is_sort Sort.Item) (field_by (item_body d))) (then_by (field_by (block_body d)) ended) base owner l ≡ faultless →
       ItemsWithin d (items_from (unplaced (read_placed (is_sort Sort.Item) (λ s p. item_in d s p) 0 l)) (block_front (λ p. block_in d p) (after_items d l)))
   items_within base owner l h fine =
       let t = then_tells (many (is_sort Sort.Item) (field_by (item_body d))) (then_by (field_by (block_body d)) ended) base owner l fine in
@@ -163,7 +162,7 @@ module _ (d : ℕ) (level : LevelWithin d) where
       (subst (λ (x : List ℕ). BlockWithin d (block_front (λ p. block_in d p) x)) (sym after) last)
 
   statement_parts_lem : (t : StatementSort) (base owner : ℕ) (l : List ℕ) → AllBytes l →
-      statement_parts (field_by (expression_body d)) (field_by (block_body d)) (field_by (item_body d)) t base owner l ≡ Judged.Fine →
+      statement_parts (field_by (expression_body d)) (field_by (block_body d)) (field_by (item_body d)) t base owner l ≡ faultless →
       StatementWithin (suc d) (statement_with d (expression_in d) (λ p. block_in d p) (λ u p. item_in d u p) t l)
   unfolding FitsStatement statement_depth
   statement_parts_lem (StatementSort.Assign kind) base owner l h fine =
@@ -195,7 +194,7 @@ module _ (d : ℕ) (level : LevelWithin d) where
       record { fits = (e.fits, items.fits); deep = omega arith }
 
   item_parts_lem : (base : ℕ) (s : Sort) (l : List ℕ) → AllBytes l →
-      then_by (field_by (constant_body d)) (then_by (field_by (block_body d)) ended) (base + 3) base l ≡ Judged.Fine →
+      then_by (field_by (constant_body d)) (then_by (field_by (block_body d)) ended) (base + 3) base l ≡ faultless →
       ItemWithin (suc d) (item_in (suc d) s l)
   unfolding item_in FitsExpression
   item_parts_lem base s l h fine =
@@ -216,13 +215,13 @@ level_within (suc d) =
     let inner = level_within d in
     record {
       statement = λ base s l h fine.
-          let c = statement_fine s (λ t. statement_parts (field_by (expression_body d)) (field_by (block_body d)) (field_by (item_body d)) t (base + 3) base l) base fine in
+          let c = statement_fine s (λ t. statement_parts (field_by (expression_body d)) (field_by (block_body d)) (field_by (item_body d)) t (base + 3) base l) (fault_at base) fine in
           rw c.1 (statement_parts_lem d inner c.0 (base + 3) base l h c.2);
       block = λ base s l h fine.
-          let c = sort_fine Sort.Block s (until_end (field_by (statement_body d)) (base + 3) base l) base fine in
+          let c = sort_fine Sort.Block s (until_end (field_by (statement_body d)) (base + 3) base l) (fault_at base) fine in
           rw c.0 (statements_within d inner (base + 3) base l h c.1);
       item = λ base s l h fine.
-          let c = sort_fine Sort.Item s (then_by (field_by (constant_body d)) (then_by (field_by (block_body d)) ended) (base + 3) base l) base fine in
+          let c = sort_fine Sort.Item s (then_by (field_by (constant_body d)) (then_by (field_by (block_body d)) ended) (base + 3) base l) (fault_at base) fine in
           item_parts_lem d inner base s l h c.1;
     }
 
@@ -245,7 +244,7 @@ declaration_within base s l h fine = go (is_declaration s) refl
     go true is = let f = declaration_sort_lem s is in rw f.1 (in_within f.0 l h)
     go false off = rw (other_sort s (λ d. declaration_in d l) (input 0 []) off) none_within
 
-declarations_within : (base owner : ℕ) (l : List ℕ) (m : ℕ) → AllBytes l → declarations_step base owner l ≡ Step.Past m → All FitsDeclaration (declarations_in l)
+declarations_within : (base owner : ℕ) (l : List ℕ) (m : ℕ) → AllBytes l → declarations_step base owner l ≡ Ok m → All FitsDeclaration (declarations_in l)
 unfolding declarations_step declarations_at
 declarations_within base owner l m h e = many_holds declaration_body declaration_read FitsDeclaration declaration_within is_declaration base owner l m h e
 
@@ -253,7 +252,7 @@ declarations_within base owner l m h e = many_holds declaration_body declaration
 
 process_within : Holds (process_body 31) (λ s p. block_in 31 p) (BlockWithin 31)
 process_within base s l h fine =
-    let c = sort_fine Sort.Process s (until_end (field_by (statement_body 30)) (base + 3) base l) base fine in
+    let c = sort_fine Sort.Process s (until_end (field_by (statement_body 30)) (base + 3) base l) (fault_at base) fine in
     statements_within 30 (level_within 30) (base + 3) base l h c.1
 
 blocks_fit : (l : List Block) → All (BlockWithin 31) l → All FitsBlock l
@@ -272,7 +271,7 @@ shallow [] = omega arith
 shallow (d ∷ l) = omega arith
 
 -- no fault means that the tree is within the limits
-pub form_fits : (file : List ℕ) → AllBytes file → file_answer longest_module file ≡ Answer.Accepted → (m : ℕ) → module_form file ≡ Step.Past m → FitsModule (module_in file)
+pub form_fits : (file : List ℕ) → AllBytes file → file_answer longest_module file ≡ acceptance → (m : ℕ) → module_form file ≡ Ok m → FitsModule (module_in file)
 unfolding tree_in module_depth
 form_fits file h accepted m e =
     let l = drop 3 file in

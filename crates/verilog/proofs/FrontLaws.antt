@@ -1,4 +1,5 @@
 -- Laws of the field at the front of a payload, for readers that go with a judge: what a fine payload tells, and how a written one is judged and read.
+use Rattle.std.specs.Prelude.{Ok}
 use mathlib.Core.Path.{◌≡◌, refl, sym, ap, ap₂, ◌∙◌, subst}
 use mathlib.Core.Bool.{Bool, true}
 use mathlib.Core.List.{List, [], ◌++◌, append-nil}
@@ -9,9 +10,7 @@ use lib.Seq.{drop_at, take_all}
 use Rattle.tagged.specs.Bytes.{AllBytes}
 use Rattle.tagged.specs.Sorts.{tag_of}
 use Rattle.tagged.specs.declared.sorts.Sort.{Sort}
-use Rattle.tagged.specs.declared.fields.Judged.{Judged}
-use Rattle.tagged.specs.declared.fields.Step.{Step}
-use Rattle.tagged.specs.Fields.{field_bytes, Judge, Body, field_by, then_by, ended}
+use Rattle.tagged.specs.Fields.{faultless, field_bytes, Judge, Body, field_by, then_by, ended}
 use Rattle.tagged.proofs.ByteLaws.{bytes_drop, bytes_take}
 use Rattle.tagged.proofs.SortLaws.{sort_back, tag_back}
 use Rattle.tagged.proofs.FieldLaws.{Whole, whole_open, field_passed, passed_field}
@@ -21,7 +20,7 @@ use Rattle.tagged.proofs.ListBytes.{whole_bytes, field_whole, field_payload, fie
 use Rattle.verilog.specs.Reading.{front_by, after_front}
 
 -- what follows a field that was passed
-pub after_passed : (body : Body) (base owner : ℕ) (l : List ℕ) (m : ℕ) → field_by body base owner l ≡ Step.Past m → after_front l ≡ drop m l
+pub after_passed : (body : Body) (base owner : ℕ) (l : List ℕ) (m : ℕ) → field_by body base owner l ≡ Ok m → after_front l ≡ drop m l
 after_passed body base owner l m e =
     let p = field_passed body base owner l m e in
     rw (whole_open 0 0 l p.whole, ← p.bytes)
@@ -35,10 +34,10 @@ module _ {A : Type 0} (wanted : Sort → Bool) (body : Body) (read : Sort → Li
 
   -- so for every payload without a fault
   abbrev pub Returns : Type 0
-  Returns = (base : ℕ) (s : Sort) (payload : List ℕ) → AllBytes payload → body base s payload ≡ Judged.Fine → Returned s payload
+  Returns = (base : ℕ) (s : Sort) (payload : List ℕ) → AllBytes payload → body base s payload ≡ faultless → Returned s payload
 
   module _ (known : Known wanted) (returns : Returns) (none : A) (base owner : ℕ) (l : List ℕ) (h : AllBytes l) where
-    pub front_written : (m : ℕ) → field_by body base owner l ≡ Step.Past m → take m l ≡ bytes (front_by read none l)
+    pub front_written : (m : ℕ) → field_by body base owner l ≡ Ok m → take m l ≡ bytes (front_by read none l)
     front_written m e =
         let p = field_passed body base owner l m e in
         let part = take p.size (drop 3 l) in
@@ -51,11 +50,11 @@ module _ {A : Type 0} (wanted : Sort → Bool) (body : Body) (read : Sort → Li
     -- the field at the front and what follows it
     pub record Fronts (next : Judge) : Type 0 where
       pub place : ℕ
-      pub rest : next place owner (after_front l) ≡ Judged.Fine
+      pub rest : next place owner (after_front l) ≡ faultless
       pub left : AllBytes (after_front l)
       pub written : bytes (front_by read none l) ++ after_front l ≡ l
 
-    pub next_returns : (next : Judge) → then_by (field_by body) next base owner l ≡ Judged.Fine → Fronts next
+    pub next_returns : (next : Judge) → then_by (field_by body) next base owner l ≡ faultless → Fronts next
     next_returns next e =
         let t = then_tells (field_by body) next base owner l e in
         let after = after_passed body base owner l t.size t.passed in
@@ -67,7 +66,7 @@ module _ {A : Type 0} (wanted : Sort → Bool) (body : Body) (read : Sort → Li
         }
 
     -- nothing follows it
-    pub last_returns : then_by (field_by body) ended base owner l ≡ Judged.Fine → bytes (front_by read none l) ≡ l
+    pub last_returns : then_by (field_by body) ended base owner l ≡ faultless → bytes (front_by read none l) ≡ l
     last_returns e =
         let t = then_tells (field_by body) ended base owner l e in
         let over = ended_tells (base + t.size) owner (drop t.size l) t.rest in
@@ -86,7 +85,7 @@ module _ {A : Type 0} {wanted : Sort → Bool} {body : Body} {read : Sort → Li
   inside : take (length x.payload) (drop 3 (bytes a ++ after)) ≡ x.payload
   inside = rw x.field (field_payload (tag_of x.sort) x.payload after)
 
-  pub stands_passed : (base owner : ℕ) → field_by body base owner (bytes a ++ after) ≡ Step.Past (length (bytes a))
+  pub stands_passed : (base owner : ℕ) → field_by body base owner (bytes a ++ after) ≡ Ok (length (bytes a))
   stands_passed base owner =
       passed_field body base owner (bytes a ++ after) (length (bytes a))
       (record {
@@ -104,13 +103,13 @@ module _ {A : Type 0} {wanted : Sort → Bool} {body : Body} {read : Sort → Li
   pub stands_after : after_front (bytes a ++ after) ≡ after
   stands_after = after_passed body 0 0 (bytes a ++ after) (length (bytes a)) (stands_passed 0 0) ∙ drop_at (bytes a) after (length (bytes a)) refl
 
-  pub next_stands : (next : Judge) (base owner : ℕ) → next (base + length (bytes a)) owner after ≡ Judged.Fine →
-      then_by (field_by body) next base owner (bytes a ++ after) ≡ Judged.Fine
+  pub next_stands : (next : Judge) (base owner : ℕ) → next (base + length (bytes a)) owner after ≡ faultless →
+      then_by (field_by body) next base owner (bytes a ++ after) ≡ faultless
   next_stands next base owner q = then_written (field_by body) next base owner (bytes a) after (stands_passed base owner) q
 
 -- where nothing follows
 module _ {A : Type 0} {wanted : Sort → Bool} {body : Body} {read : Sort → List ℕ → A} {bytes : A → List ℕ} {a : A} (x : Stands wanted body read bytes a) where
-  pub last_stands : (base owner : ℕ) → then_by (field_by body) ended base owner (bytes a) ≡ Judged.Fine
+  pub last_stands : (base owner : ℕ) → then_by (field_by body) ended base owner (bytes a) ≡ faultless
   last_stands base owner = last_written (field_by body) base owner (bytes a) (stands_passed x [] base owner)
 
   pub last_front : (none : A) → front_by read none (bytes a) ≡ a

@@ -1,5 +1,7 @@
 -- Modules and their files give each other back: a file without a fault is the encoding of the tree that is read, and the encoding of a tree within the limits
 -- has no fault and is read as it was.
+use Rattle.tagged.specs.Answers.{fault_at}
+use Rattle.std.specs.Prelude.{Ok}
 use mathlib.Core.Path.{◌≡◌, refl, sym, ap, ap₂, ◌∙◌, subst}
 use mathlib.Core.Bool.{true}
 use mathlib.Core.List.{List, [], ◌∷◌, ◌++◌, append-nil}
@@ -11,15 +13,13 @@ use borrow.Author.Tests.{eqb-true, eq-eqb, le-leb}
 use Rattle.tagged.specs.Limits.{deepest, shortest_file, longest_module}
 use Rattle.tagged.specs.Bytes.{AllBytes, two_bytes}
 use Rattle.tagged.specs.Sorts.{sort_of, tag_of, is_declaration, is_sort}
-use Rattle.tagged.specs.Fields.{field_bytes, all_bytes_of, size_of, field_by, then_by, until_end, passed_bytes, read_placed, unplaced, placed_by}
+use Rattle.tagged.specs.Fields.{faultless, field_bytes, all_bytes_of, size_of, field_by, then_by, until_end, passed_bytes, read_placed, unplaced, placed_by, Step}
 use Rattle.tagged.specs.Files.{file_answer, outer_answer}
 use Rattle.tagged.specs.Declarations.{Declaration, sort_of_declaration, declaration_payload, declaration_bytes, declaration_body, declarations_step, declaration_read, declarations_at, declarations_in, after_declarations}
 use Rattle.tagged.specs.declared.sorts.Sort.{Sort}
-use Rattle.tagged.specs.declared.fields.Judged.{Judged}
-use Rattle.tagged.specs.declared.fields.Step.{Step}
-use Rattle.tagged.specs.declared.answers.Answer.{Answer}
+use Rattle.tagged.specs.Answers.{acceptance}
 use Rattle.tagged.proofs.ByteLaws.{bytes_drop}
-use Rattle.tagged.proofs.SortLaws.{tag_back}
+use Rattle.tagged.proofs.SortLaws.{tag_back, is_itself}
 use Rattle.tagged.proofs.FieldLaws.{Whole, field_passed}
 use Rattle.tagged.proofs.ListBytes.{whole_bytes, field_whole, field_length, placed_unplaced, Stops, Stands, Each, none, more}
 use Rattle.tagged.proofs.DeclarationBytes.{after_declared_lem, declarations_anywhere, declarations_read, Writable, writable_stands, declarations_pass, declarations_placed}
@@ -27,13 +27,11 @@ use Rattle.verilog.specs.Tree.{Block, Module}
 use Rattle.verilog.specs.Form.{block_payload, process_bytes, module_payload, module_bytes, statement_body, process_body, module_body, module_form}
 use Rattle.verilog.specs.Reading.{block_in, tree_in, module_in}
 use Rattle.verilog.specs.Fits.{longest_field, FitsBlock, FitsDeclaration, All, statements_depth, processes_depth, module_depth, FitsModule}
-use Rattle.tagged.proofs.JudgeLaws.{then_tells, then_written}
+use Rattle.tagged.proofs.JudgeLaws.{then_tells, then_written, sort_fine}
 use Rattle.verilog.proofs.FrontLaws.{Returns, stands_passed}
 use Rattle.tagged.proofs.RunLaws.{stops_none, stops_field, list_in, until_stands, until_back}
 use Rattle.verilog.proofs.FrontLists.{until_returns}
 use Rattle.tagged.proofs.FileLaws.{file_fits}
-use Rattle.tagged.proofs.SortLaws.{is_itself}
-use Rattle.tagged.proofs.JudgeLaws.{sort_fine}
 use Rattle.verilog.proofs.SortChoices.{process_known}
 use Rattle.verilog.proofs.ExpressionBytes.{payload_short}
 use Rattle.verilog.proofs.StatementBytes.{block_written}
@@ -44,7 +42,7 @@ use Rattle.verilog.proofs.StatementStands.{block_passed, block_read}
 pub process_returns : (d : ℕ) → Returns (is_sort Sort.Process) (process_body (suc d)) (λ s l. block_in (suc d) l) process_bytes
 unfolding process_bytes
 process_returns d base s l h fine =
-    let c = sort_fine Sort.Process s (until_end (field_by (statement_body d)) (base + 3) base l) base fine in
+    let c = sort_fine Sort.Process s (until_end (field_by (statement_body d)) (base + 3) base l) (fault_at base) fine in
     record { is = c.0; written = ap₂ field_bytes (eqb-true _ _ c.0) (block_written d (base + 3) base l h c.1) }
 
 -- an outer payload without a fault: where its declarations stand and end, and what the processes after them are
@@ -54,7 +52,7 @@ pub record PayloadRead (base : ℕ) (l : List ℕ) : Type 0 where
   pub processes : after_declarations l ≡ all_bytes_of process_bytes (tree_in l).processes
   pub written : module_payload (tree_in l) ≡ l
 
-payload_returns : (base owner : ℕ) (l : List ℕ) → AllBytes l → then_by declarations_step (until_end (field_by (process_body 31))) base owner l ≡ Judged.Fine →
+payload_returns : (base owner : ℕ) (l : List ℕ) → AllBytes l → then_by declarations_step (until_end (field_by (process_body 31))) base owner l ≡ faultless →
     PayloadRead base l
 unfolding module_payload tree_in
 payload_returns base owner l h fine =
@@ -84,28 +82,28 @@ module_tag file {s} w is =
 -- a file without a fault, opened: its payload is all but the header, and has no fault
 pub record FormOpened (file : List ℕ) : Type 0 where
   pub tagged : file ≡ field_bytes (tag_of Sort.Module) (drop 3 file)
-  pub fine : then_by declarations_step (until_end (field_by (process_body 31))) 3 0 (drop 3 file) ≡ Judged.Fine
+  pub fine : then_by declarations_step (until_end (field_by (process_body 31))) 3 0 (drop 3 file) ≡ faultless
 
-pub form_opened : (file : List ℕ) → AllBytes file → file_answer longest_module file ≡ Answer.Accepted → (m : ℕ) → module_form file ≡ Step.Past m → FormOpened file
+pub form_opened : (file : List ℕ) → AllBytes file → file_answer longest_module file ≡ acceptance → (m : ℕ) → module_form file ≡ Ok m → FormOpened file
 unfolding module_form
 form_opened file h accepted m e =
     let p = field_passed (module_body deepest) 0 0 file m e in
     let n = p.size in
     let outer : n + 3 ≡ length file = ap (λ (k : ℕ). k + 3) p.whole.size ∙ (file_fits longest_module file accepted).outer in
     let all : take n (drop 3 file) ≡ drop 3 file = take_all n (drop 3 file) (omega (arith, length-drop 3 file)) in
-    let c = sort_fine Sort.Module p.sort (then_by declarations_step (until_end (field_by (process_body 31))) 3 0 (take n (drop 3 file))) 0 p.fine in
+    let c = sort_fine Sort.Module p.sort (then_by declarations_step (until_end (field_by (process_body 31))) 3 0 (take n (drop 3 file))) (fault_at 0) p.fine in
     record {
       tagged = sym (take_all (n + 3) file (omega arith)) ∙ whole_bytes file h p.whole ∙ ap₂ field_bytes (module_tag file p.whole c.0) all;
       fine = rw all at c.1;
     }
 
 -- the payload of a file without a fault
-pub form_read : (file : List ℕ) → AllBytes file → file_answer longest_module file ≡ Answer.Accepted → (m : ℕ) → module_form file ≡ Step.Past m →
+pub form_read : (file : List ℕ) → AllBytes file → file_answer longest_module file ≡ acceptance → (m : ℕ) → module_form file ≡ Ok m →
     PayloadRead 3 (drop 3 file)
 form_read file h accepted m e = payload_returns 3 0 (drop 3 file) (bytes_drop 3 file h) (form_opened file h accepted m e).fine
 
 -- no fault means that the tree's encoding is the file
-pub form_written : (file : List ℕ) → AllBytes file → file_answer longest_module file ≡ Answer.Accepted → (m : ℕ) → module_form file ≡ Step.Past m →
+pub form_written : (file : List ℕ) → AllBytes file → file_answer longest_module file ≡ acceptance → (m : ℕ) → module_form file ≡ Ok m →
     file ≡ module_bytes (module_in file)
 unfolding module_bytes
 form_written file h accepted m e =
@@ -179,7 +177,7 @@ module _ (m : Module) (fits : FitsModule m) where
   processed : Each (is_sort Sort.Process) (process_body 31) (λ s p. block_in 31 p) process_bytes m.processes
   processed = processes_each 30 m.processes fits.processes (parts_fit m fits).deep (parts_fit m fits).after
 
-  payload_fine : (base owner : ℕ) → then_by declarations_step (until_end (field_by (process_body 31))) base owner (module_payload m) ≡ Judged.Fine
+  payload_fine : (base owner : ℕ) → then_by declarations_step (until_end (field_by (process_body 31))) base owner (module_payload m) ≡ faultless
   unfolding module_payload
   payload_fine base owner =
       let front = all_bytes_of declaration_bytes m.declarations in
@@ -216,13 +214,13 @@ module _ (m : Module) (fits : FitsModule m) where
   }
 
   -- the encoding of a tree within the limits has no fault
-  pub written_form : module_form (module_bytes m) ≡ Step.Past (length (module_bytes m))
+  pub written_form : module_form (module_bytes m) ≡ Ok (length (module_bytes m))
   unfolding module_form
   written_form =
       ap (λ (l : List ℕ). field_by (module_body deepest) 0 0 l) (sym (append-nil (module_bytes m))) ∙ stands_passed module_stands [] 0 0
 
   -- its length is that of a file
-  pub written_accepted : file_answer longest_module (module_bytes m) ≡ Answer.Accepted
+  pub written_accepted : file_answer longest_module (module_bytes m) ≡ acceptance
   unfolding file_answer outer_answer module_bytes
   written_accepted =
       let payload = module_payload m in

@@ -4,12 +4,12 @@ use mathlib.Core.List.{List, ◌∷◌, ◌++◌}
 use Prim.Native.Nat.{ℕ, ◌-◌}
 use native.Mathlib.Omega.{arith}
 use lib.ListN.{length, take, drop, length-drop, take-append-drop}
+use Rattle.tagged.specs.Answers.{acceptance}
 use Rattle.tagged.specs.Limits.{longest_module}
 use Rattle.tagged.specs.Bytes.{AllBytes}
 use Rattle.tagged.specs.Fields.{all_bytes_of, placed_by, field_by, until_end}
 use Rattle.tagged.specs.Files.{file_answer}
 use Rattle.tagged.specs.Declarations.{Declaration, name_of, declaration_bytes, declarations_step}
-use Rattle.tagged.specs.declared.answers.Answer.TheVariants as Answer
 use Rattle.tagged.specs.declared.parts.Part.{Part}
 use Rattle.tagged.proofs.ByteLaws.{bytes_drop}
 use Rattle.tagged.proofs.JudgeLaws.{then_tells}
@@ -22,7 +22,7 @@ use Rattle.verilog.specs.Answer.{tree_answer, module_answer}
 use Rattle.verilog.specs.Parts.{name_part}
 use Rattle.verilog.proofs.ModuleBytes.{form_opened}
 
-pub name_listed : (file : List ℕ) → AllBytes file → module_answer file ≡ Answer.Accepted → (earlier : List Declaration) (d : Declaration) (later : List Declaration) →
+pub name_listed : (file : List ℕ) → AllBytes file → module_answer file ≡ acceptance → (earlier : List Declaration) (d : Declaration) (later : List Declaration) →
     (module_in file).declarations ≡ earlier ++ (d ∷ later) →
     let p : Part = name_part (length earlier) file in take (p.end - p.start) (drop p.start file) ≡ name_of d
 unfolding module_answer tree_in name_part

@@ -1,22 +1,19 @@
 -- A module is refused exactly when it breaks a written rule, with the first such number and its first place; accepted exactly when it breaks none.
 -- From the laws of the first broken element and rule, the relation in words (BreaksLaws), and that places rise with the order of the fields.
-use mathlib.Core.Path.{◌≡◌, refl, sym, ◌∙◌}
+use Rattle.tagged.specs.Answers.{acceptance, refused as refusal, fault_at, number_of, Answer}
+use Rattle.std.specs.Prelude.{Ok, Err, Some, None}
+use mathlib.Core.Path.{◌≡◌, refl, sym, ap, ◌∙◌}
 use mathlib.Core.Bool.{Bool, true, false, false≢true}
 use mathlib.Core.List.{List, [], ◌∷◌, Memᴰ}
 use mathlib.Core.Logic.{◌↔◌}
 use Prim.Native.Nat.{ℕ, ◌<◌}
-use Rattle.tagged.specs.Fields.{unplaced}
+use Rattle.tagged.specs.Fields.{unplaced, Step}
 use Rattle.tagged.specs.Limits.{longest_module}
 use Rattle.tagged.specs.Files.{file_answer}
 use Rattle.tagged.specs.Refusals.{after_form, after_answer}
-use Rattle.tagged.specs.Answers.{number_of}
 use Rattle.tagged.specs.Stands.{Stands}
 use Rattle.tagged.specs.declared.answers.Rule.{Rule}
-use Rattle.tagged.specs.declared.answers.Answer.{Answer}
-use Rattle.tagged.specs.declared.answers.Found.{Found}
-use Rattle.tagged.specs.declared.fields.Step.{Step}
-use Rattle.tagged.proofs.RefusalLaws.{nowhere_passes, passes_nowhere, FirstBreak, at_first, first_at}
-use Rattle.tagged.proofs.RefusalLaws.{Rising, order_rising, accepted_none, none_accepted, none_each, each_none, refused_first, first_refused, first_lower, lower_first, first_broken_lem}
+use Rattle.tagged.proofs.RefusalLaws.{one_rule, one_place, nowhere_passes, passes_nowhere, FirstBreak, at_first, first_at, Rising, order_rising, accepted_none, none_accepted, none_each, each_none, refused_first, first_refused, first_lower, lower_first, first_broken_lem}
 use Rattle.tagged.proofs.FileLaws.{accepted_parts}
 use Rattle.verilog.specs.Tree.{Module}
 use Rattle.verilog.specs.Nodes.{Node, module_nodes}
@@ -45,17 +42,17 @@ module _ (m : Module) where
       go false e = e
 
   -- a rule has no place exactly when nothing breaks it, and the place p exactly when what breaks it first stands there
-  nowhere_none : (k : Rule) → module_broken 3 m k ≡ Found.Nowhere → (p : ℕ) → Breaks m k p → ⊥
+  nowhere_none : (k : Rule) → module_broken 3 m k ≡ None → (p : ℕ) → Breaks m k p → ⊥
   unfolding module_broken
   nowhere_none k e p b =
       let f = (breaks_node m k p).0 b in
       false≢true (sym (nowhere_passes (test k) [] f.stands e) ∙ f.broken)
 
-  none_nowhere : (k : Rule) → ((p : ℕ) → Breaks m k p → ⊥) → module_broken 3 m k ≡ Found.Nowhere
+  none_nowhere : (k : Rule) → ((p : ℕ) → Breaks m k p → ⊥) → module_broken 3 m k ≡ None
   unfolding module_broken
   none_nowhere k h = passes_nowhere (test k) [] (module_nodes 3 m) (λ before p n s. passes_unless k s (h p))
 
-  at_breaks : (k : Rule) (p : ℕ) → module_broken 3 m k ≡ Found.At p → Breaks m k p × ((q : ℕ) → q < p → Breaks m k q → ⊥)
+  at_breaks : (k : Rule) (p : ℕ) → module_broken 3 m k ≡ Some p → Breaks m k p × ((q : ℕ) → q < p → Breaks m k q → ⊥)
   unfolding module_broken
   at_breaks k p e = ((breaks_node m k p).1 (record { before = f.before; node = f.what; stands = f.stands; broken = f.broken }), sooner)
     where
@@ -68,7 +65,7 @@ module _ (m : Module) where
           let fewer = (earlier_smaller_place m g.stands f.stands).1 less in
           false≢true (sym (f.others g.before q g.node g.stands fewer) ∙ g.broken)
 
-  breaks_at : (k : Rule) (p : ℕ) → Breaks m k p → ((q : ℕ) → q < p → Breaks m k q → ⊥) → module_broken 3 m k ≡ Found.At p
+  breaks_at : (k : Rule) (p : ℕ) → Breaks m k p → ((q : ℕ) → q < p → Breaks m k q → ⊥) → module_broken 3 m k ≡ Some p
   unfolding module_broken
   breaks_at k p b sooner =
       let f = (breaks_node m k p).0 b in
@@ -106,11 +103,11 @@ pub record RefusedFor (m : Module) (k : Rule) (p : ℕ) : Type 0 where
   pub lowest_number : (j : Rule) (q : ℕ) → number_of j < number_of k → Breaks m j q → ⊥
 
 -- Demand 2: a module is refused exactly when it breaks a written rule, with the first such number; its place is that of the first field that breaks it
-pub refused : (m : Module) (k : Rule) (p : ℕ) → tree_answer 3 m ≡ Answer.Refused k p ↔ RefusedFor m k p
+pub refused : (m : Module) (k : Rule) (p : ℕ) → tree_answer 3 m ≡ Err (refusal k p) ↔ RefusedFor m k p
 unfolding tree_answer
 refused m k p = (forth, back)
   where
-    forth : tree_answer 3 m ≡ Answer.Refused k p → RefusedFor m k p
+    forth : tree_answer 3 m ≡ Err (refusal k p) → RefusedFor m k p
     forth e =
         let f = refused_first (module_broken 3 m) module_rules e in
         let at = at_breaks m k p (first_broken_lem (module_broken 3 m) f) in
@@ -120,14 +117,14 @@ refused m k p = (forth, back)
           lowest_number = λ j q less b. nowhere_none m j (first_lower (module_broken 3 m) rules_rise f j (breaks_listed m b) less) q b;
         }
 
-    back : RefusedFor m k p → tree_answer 3 m ≡ Answer.Refused k p
+    back : RefusedFor m k p → tree_answer 3 m ≡ Err (refusal k p)
     back r =
         first_refused (module_broken 3 m)
         (lower_first (module_broken 3 m) rules_rise (breaks_listed m r.breaks) (breaks_at m k p r.breaks r.first_place)
         (λ j i less. none_nowhere m j (λ q b. r.lowest_number j q less b)))
 
 -- Demand 2, the other side: a module is accepted exactly when no field breaks a rule
-pub accepted : (m : Module) → tree_answer 3 m ≡ Answer.Accepted ↔ ((k : Rule) (p : ℕ) → Breaks m k p → ⊥)
+pub accepted : (m : Module) → tree_answer 3 m ≡ acceptance ↔ ((k : Rule) (p : ℕ) → Breaks m k p → ⊥)
 unfolding tree_answer
 accepted m = (
   λ e k p b. nowhere_none m k (none_each (module_broken 3 m) (accepted_none (module_broken 3 m) module_rules e) k (breaks_listed m b)) p b,
@@ -136,26 +133,25 @@ accepted m = (
 
 -- Demand 2 on files: by its length, else by its form, else by the rules of its tree, in this order
 pub data FileRefused (file : List ℕ) : Rule → ℕ → Type 0 where
-  by_length : {k : Rule} {p : ℕ} → file_answer longest_module file ≡ Answer.Refused k p → FileRefused file k p
-  by_form : {p : ℕ} → file_answer longest_module file ≡ Answer.Accepted → module_form file ≡ Step.Refused p → FileRefused file Rule.Form p
-  by_rule : {k : Rule} {p n : ℕ} → file_answer longest_module file ≡ Answer.Accepted → module_form file ≡ Step.Past n → RefusedFor (module_in file) k p →
+  by_length : {k : Rule} {p : ℕ} → file_answer longest_module file ≡ Err (refusal k p) → FileRefused file k p
+  by_form : {p : ℕ} → file_answer longest_module file ≡ acceptance → module_form file ≡ Err (fault_at p) → FileRefused file Rule.Form p
+  by_rule : {k : Rule} {p n : ℕ} → file_answer longest_module file ≡ acceptance → module_form file ≡ Ok n → RefusedFor (module_in file) k p →
       FileRefused file k p
 
-pub file_refused : (file : List ℕ) (k : Rule) (p : ℕ) → module_answer file ≡ Answer.Refused k p ↔ FileRefused file k p
+pub file_refused : (file : List ℕ) (k : Rule) (p : ℕ) → module_answer file ≡ Err (refusal k p) ↔ FileRefused file k p
 unfolding module_answer
 file_refused file k p = (λ e. forth (file_answer longest_module file) refl (module_form file) refl e, back)
   where
     forth : (a : Answer) → file_answer longest_module file ≡ a → (s : Step) → module_form file ≡ s →
-        after_answer a (after_form s (tree_answer 3 (module_in file))) ≡ Answer.Refused k p → FileRefused file k p
-    forth (Answer.Refused j q) h s g e = by_length (h ∙ e)
-    forth Answer.Accepted h (Step.Refused q) g e =
-        let same : Rule.Form ≡ k = cc in
-        let place : q ≡ p = cc in
-        rw (← same) (by_form h (rw place at g))
-    forth Answer.Accepted h (Step.Past n) g e = by_rule h g ((refused (module_in file) k p).0 e)
+        after_answer a (after_form s (tree_answer 3 (module_in file))) ≡ Err (refusal k p) → FileRefused file k p
+    forth (Err r) h s g e = by_length (h ∙ e)
+    forth (Ok _) h (Err q) g e =
+        let same : Rule.Form ≡ k = one_rule e in
+        rw (← same) (by_form h (g ∙ ap (λ (n : ℕ). Err (fault_at n)) (one_place e)))
+    forth (Ok _) h (Ok n) g e = by_rule h g ((refused (module_in file) k p).0 e)
 
     back : {k : Rule} {p : ℕ} → FileRefused file k p →
-        after_answer (file_answer longest_module file) (after_form (module_form file) (tree_answer 3 (module_in file))) ≡ Answer.Refused k p
+        after_answer (file_answer longest_module file) (after_form (module_form file) (tree_answer 3 (module_in file))) ≡ Err (refusal k p)
     back (by_length h) = rw h
     back (by_form h g) = rw (h, g)
     back (by_rule {k} {p} h g r) = rw (h, g) ((refused (module_in file) k p).1 r)
@@ -163,15 +159,15 @@ file_refused file k p = (λ e. forth (file_answer longest_module file) refl (mod
 -- what an accepted file is: of a good length and form, and no field breaks a rule
 pub record FileAccepted (file : List ℕ) : Type 0 where
   pub size : ℕ
-  pub long : file_answer longest_module file ≡ Answer.Accepted
-  pub form : module_form file ≡ Step.Past size
+  pub long : file_answer longest_module file ≡ acceptance
+  pub form : module_form file ≡ Ok size
   pub unbroken : (k : Rule) (p : ℕ) → Breaks (module_in file) k p → ⊥
 
-pub file_accepted : (file : List ℕ) → module_answer file ≡ Answer.Accepted ↔ FileAccepted file
+pub file_accepted : (file : List ℕ) → module_answer file ≡ acceptance ↔ FileAccepted file
 unfolding module_answer
 file_accepted file = (forth, λ f. rw (f.long, f.form) ((accepted (module_in file)).1 f.unbroken))
   where
-    forth : module_answer file ≡ Answer.Accepted → FileAccepted file
+    forth : module_answer file ≡ acceptance → FileAccepted file
     forth e =
         let p = accepted_parts (file_answer longest_module file) (module_form file) (tree_answer 3 (module_in file)) e in
         record { size = p.0; long = p.1; form = p.2; unbroken = (accepted (module_in file)).0 p.3 }

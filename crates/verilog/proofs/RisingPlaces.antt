@@ -9,8 +9,7 @@ use Rattle.tagged.specs.Fields.{Placed, field_bytes, all_bytes_of}
 use Rattle.tagged.specs.Stands.{Stands}
 use Rattle.tagged.specs.Declarations.{Declaration, declaration_bytes}
 use Rattle.tagged.proofs.RiseLaws.{Rise, none, more, rise_from, rise_to, rise_append, earlier_smaller, smaller_earlier}
-use Rattle.verilog.specs.Tree.{Expression, constant, variable, fixed_bit, chosen_bit, one, two}
-use Rattle.verilog.specs.Tree.{Statement, assign, assign_bit, if_else, case, Block, end, ◌then◌, Items, default, item, Module}
+use Rattle.verilog.specs.Tree.{Expression, constant, variable, fixed_bit, chosen_bit, one, two, Statement, assign, assign_bit, if_else, case, Block, end, ◌then◌, Items, default, item, Module}
 use Rattle.verilog.specs.Form.{expression_bytes, statement_bytes, block_payload, items_bytes, process_bytes}
 use Rattle.verilog.specs.Nodes.{What, Node, node_at, past, expression_nodes, statement_nodes, block_nodes, items_nodes, process_nodes, declaration_nodes, module_nodes}
 

@@ -1,16 +1,18 @@
 -- Laws of choosing by a sort: the sort that a test names, and that every sort that is asked for has a tag.
+use Rattle.std.specs.Prelude.{Err}
 use mathlib.Core.Path.{◌≡◌, refl, sym}
 use mathlib.Core.Bool.{true≢false}
 use Prim.Native.Nat.{ℕ}
 use native.Mathlib.Omega.{arith}
 use Rattle.words.specs.declared.OneOperand.TheVariants as one
 use Rattle.words.specs.declared.TwoOperand.TheVariants as two
+use Rattle.tagged.specs.declared.answers.Fault.{Fault}
 use Rattle.tagged.specs.Sorts.{tag_of, expression_tag, statement_tag, on_expression, on_statement, is_expression, is_statement, is_sort}
 use Rattle.tagged.specs.declared.sorts.Kind.TheVariants as Kind
 use Rattle.tagged.specs.declared.sorts.StatementSort.{StatementSort}
 use Rattle.tagged.specs.declared.sorts.ExpressionSort.{ExpressionSort}
 use Rattle.tagged.specs.declared.sorts.Sort.{Sort}
-use Rattle.tagged.specs.declared.fields.Judged.{Judged}
+use Rattle.tagged.specs.Fields.{faultless, Judged}
 use Rattle.tagged.proofs.RunLaws.{Known, sort_known}
 
 -- one sort
@@ -59,8 +61,8 @@ expression_known Sort.Netlist is z = true≢false (sym is)
 expression_known Sort.Unknown is z = true≢false (sym is)
 
 -- a judge of expressions that finds no fault was given one
-pub expression_fine : (s : Sort) (f : ExpressionSort → Judged) (x : ℕ) → on_expression s f (Judged.Refused x) ≡ Judged.Fine →
-    (e : ExpressionSort) × (s ≡ Sort.Expression e) × (f e ≡ Judged.Fine)
+pub expression_fine : (s : Sort) (f : ExpressionSort → Judged) (x : Fault) → on_expression s f (Err x) ≡ faultless →
+    (e : ExpressionSort) × (s ≡ Sort.Expression e) × (f e ≡ faultless)
 expression_fine Sort.Module f x h = absurd (let z : ◌≡◌ {A = ℕ} 0 1 = cc in omega arith)
 expression_fine (Sort.Declaration d) f x h = absurd (let z : ◌≡◌ {A = ℕ} 0 1 = cc in omega arith)
 expression_fine Sort.Process f x h = absurd (let z : ◌≡◌ {A = ℕ} 0 1 = cc in omega arith)
@@ -97,8 +99,8 @@ statement_known Sort.Netlist is z = true≢false (sym is)
 statement_known Sort.Unknown is z = true≢false (sym is)
 
 -- a judge of statements that finds no fault was given one
-pub statement_fine : (s : Sort) (f : StatementSort → Judged) (x : ℕ) → on_statement s f (Judged.Refused x) ≡ Judged.Fine →
-    (e : StatementSort) × (s ≡ Sort.Statement e) × (f e ≡ Judged.Fine)
+pub statement_fine : (s : Sort) (f : StatementSort → Judged) (x : Fault) → on_statement s f (Err x) ≡ faultless →
+    (e : StatementSort) × (s ≡ Sort.Statement e) × (f e ≡ faultless)
 statement_fine Sort.Module f x h = absurd (let z : ◌≡◌ {A = ℕ} 0 1 = cc in omega arith)
 statement_fine (Sort.Declaration d) f x h = absurd (let z : ◌≡◌ {A = ℕ} 0 1 = cc in omega arith)
 statement_fine Sort.Process f x h = absurd (let z : ◌≡◌ {A = ℕ} 0 1 = cc in omega arith)

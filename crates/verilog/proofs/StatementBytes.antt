@@ -1,4 +1,6 @@
 -- Statements, blocks and items from bytes: what is read without a fault is written as it stood; by induction on the levels that may be opened.
+use Rattle.tagged.specs.Answers.{fault_at}
+use Rattle.std.specs.Prelude.{Ok, Err}
 use mathlib.Core.Path.{◌≡◌, refl, sym, ap, ap₂, ◌∙◌, subst}
 use mathlib.Core.Bool.{cond}
 use mathlib.Core.List.{List, ◌∷◌, ◌++◌, append_assoc}
@@ -8,23 +10,19 @@ use lib.ListN.{get_or, take, drop, take-append-drop}
 use borrow.Author.Tests.{eqb-true}
 use Rattle.tagged.specs.Bytes.{AllBytes, four_of}
 use Rattle.tagged.specs.Sorts.{tag_of, is_expression, is_statement, is_sort}
-use Rattle.tagged.specs.Fields.{Judge, field_bytes, open_of, on_field, field_by, then_by, fixed_then, ended, many, passed_bytes, until_end, read_placed, unplaced}
+use Rattle.tagged.specs.Fields.{faultless, Judge, field_bytes, open_of, on_field, field_by, then_by, fixed_then, ended, many, passed_bytes, until_end, read_placed, unplaced, Opened, Step}
 use Rattle.tagged.specs.declared.sorts.StatementSort.{StatementSort}
 use Rattle.tagged.specs.declared.sorts.ExpressionSort.TheVariants as ExpressionSort
 use Rattle.tagged.specs.declared.sorts.Sort.{Sort}
-use Rattle.tagged.specs.declared.fields.Opened.{Opened}
-use Rattle.tagged.specs.declared.fields.Judged.{Judged}
-use Rattle.tagged.specs.declared.fields.Step.{Step}
 use Rattle.tagged.proofs.ByteLaws.{bytes_drop}
 use Rattle.verilog.specs.Tree.{Expression, constant, Block, end}
 use Rattle.verilog.specs.Form.{expression_bytes, statement_field, statement_bytes, block_payload, items_bytes, block_bytes, expression_body, constant_body, statement_parts, statement_body, block_body, item_body}
 use Rattle.verilog.specs.Reading.{no_expression, front_by, after_front, block_front, expression_in, items_from, after_items, statement_with, no_statement, statement_in, block_in, item_in}
-use Rattle.tagged.proofs.JudgeLaws.{then_tells, fixed_tells, fixed_only_lem}
+use Rattle.tagged.proofs.JudgeLaws.{then_tells, fixed_tells, fixed_only_lem, sort_fine}
 use Rattle.verilog.proofs.FrontLaws.{Returned, Returns, Fronts, front_written, next_returns, last_returns}
 use Rattle.tagged.proofs.RunLaws.{list_in}
 use Rattle.verilog.proofs.FrontLists.{many_returns, until_returns}
 use Rattle.tagged.proofs.AnyPlace.{field_anywhere, many_anywhere}
-use Rattle.tagged.proofs.JudgeLaws.{sort_fine}
 use Rattle.verilog.proofs.SortChoices.{item_known, block_known, expression_known, statement_known, statement_fine, constant_known}
 use Rattle.verilog.proofs.ExpressionBytes.{expression_at, expression_front, expression_returns, expression_last, constant_payload, one_first, two_first}
 use Rattle.verilog.proofs.StatementLists.{from_bytes, item_bytes, items_from_bytes}
@@ -44,21 +42,21 @@ constant_front l = go (open_of 0 0 l)
     go : (o : Opened) →
         on_field o (λ s n. constant_at s (take n (drop 3 l))) no_expression
         ≡ constant (on_field o (λ s n. get_or (take n (drop 3 l)) 0 0) 0) (on_field o (λ s n. four_of (drop 1 (take n (drop 3 l)))) 0)
-    go (Opened.Field s n) = refl
-    go (Opened.Refused x) = refl
+    go (Ok (s, n)) = refl
+    go (Err x) = refl
 
 pub constant_returns : (d : ℕ) → Returns (is_sort (Sort.Expression ExpressionSort.Constant)) (constant_body d) constant_at expression_bytes
 unfolding constant_body expression_bytes
 constant_returns zero base s l h fine = absurd (let z : ◌≡◌ {A = ℕ} 0 1 = cc in omega arith)
 constant_returns (suc d) base s l h fine =
-    let c = sort_fine (Sort.Expression ExpressionSort.Constant) s (fixed_then 5 ended (base + 3) base l) base fine in
+    let c = sort_fine (Sort.Expression ExpressionSort.Constant) s (fixed_then 5 ended (base + 3) base l) (fault_at base) fine in
     record {
       is = c.0;
       written = ap₂ field_bytes (eqb-true _ _ c.0) (constant_payload l h (fixed_only_lem 5 (base + 3) base l c.1));
     }
 
 -- what follows the items that were passed
-pub after_items_lem : (d base owner : ℕ) (l : List ℕ) (m : ℕ) → many (is_sort Sort.Item) (field_by (item_body d)) base owner l ≡ Step.Past m → after_items d l ≡ drop m l
+pub after_items_lem : (d base owner : ℕ) (l : List ℕ) (m : ℕ) → many (is_sort Sort.Item) (field_by (item_body d)) base owner l ≡ Ok m → after_items d l ≡ drop m l
 after_items_lem d base owner l m e =
     ap (λ (s : Step). drop (passed_bytes s) l)
     (many_anywhere (is_sort Sort.Item) (field_by (item_body d)) (field_anywhere (item_body d) (level_anywhere d).item) base owner 0 0 l m e)
@@ -70,7 +68,7 @@ pub record LevelReturns (d : ℕ) : Type 0 where
   pub item : Returns (is_sort Sort.Item) (item_body d) (λ s l. item_in d s l) item_bytes
 
 -- the statements of a payload
-statements_return : (d : ℕ) → LevelReturns d → (base owner : ℕ) (l : List ℕ) → AllBytes l → until_end (field_by (statement_body d)) base owner l ≡ Judged.Fine →
+statements_return : (d : ℕ) → LevelReturns d → (base owner : ℕ) (l : List ℕ) → AllBytes l → until_end (field_by (statement_body d)) base owner l ≡ faultless →
     block_payload (block_in (suc d) l) ≡ l
 unfolding block_in
 statements_return d level base owner l h fine =
@@ -79,13 +77,13 @@ statements_return d level base owner l h fine =
 
 module _ (d : ℕ) (level : LevelReturns d) where
   -- the block at the front, and nothing after it
-  block_last : (base owner : ℕ) (l : List ℕ) → AllBytes l → then_by (field_by (block_body d)) ended base owner l ≡ Judged.Fine →
+  block_last : (base owner : ℕ) (l : List ℕ) → AllBytes l → then_by (field_by (block_body d)) ended base owner l ≡ faultless →
       block_bytes (block_front (λ p. block_in d p) l) ≡ l
   block_last base owner l h fine = last_returns (is_sort Sort.Block) (block_body d) (block_at d) block_bytes block_known level.block end base owner l h fine
 
   -- the items at the front, and then the default block
   items_return : (base owner : ℕ) (l : List ℕ) → AllBytes l →
-      then_by (many (is_sort Sort.Item) (field_by (item_body d))) (then_by (field_by (block_body d)) ended) base owner l ≡ Judged.Fine →
+      then_by (many (is_sort Sort.Item) (field_by (item_body d))) (then_by (field_by (block_body d)) ended) base owner l ≡ faultless →
       items_bytes (items_from (list_in (is_sort Sort.Item) (item_body d) (λ s p. item_in d s p) item_bytes l) (block_front (λ p. block_in d p) (after_items d l))) ≡ l
   items_return base owner l h fine =
       let t = then_tells (many (is_sort Sort.Item) (field_by (item_body d))) (then_by (field_by (block_body d)) ended) base owner l fine in
@@ -98,14 +96,14 @@ module _ (d : ℕ) (level : LevelReturns d) where
       ∙ ap₂ (λ (a b : List ℕ). a ++ b) (sym items.0) block ∙ take-append-drop m l
 
   -- the expression at the front, and then more
-  expression_next : (next : Judge) (base owner : ℕ) (l : List ℕ) (h : AllBytes l) → then_by (field_by (expression_body d)) next base owner l ≡ Judged.Fine →
+  expression_next : (next : Judge) (base owner : ℕ) (l : List ℕ) (h : AllBytes l) → then_by (field_by (expression_body d)) next base owner l ≡ faultless →
       Fronts is_expression (expression_body d) (expression_at d) expression_bytes expression_known (expression_returns d) no_expression base owner l h next
   expression_next next base owner l h fine =
       next_returns is_expression (expression_body d) (expression_at d) expression_bytes expression_known (expression_returns d) no_expression base owner l h next fine
 
   -- what a statement holds
   statement_parts_lem : (t : StatementSort) (base owner : ℕ) (l : List ℕ) → AllBytes l →
-      statement_parts (field_by (expression_body d)) (field_by (block_body d)) (field_by (item_body d)) t base owner l ≡ Judged.Fine →
+      statement_parts (field_by (expression_body d)) (field_by (block_body d)) (field_by (item_body d)) t base owner l ≡ faultless →
       statement_bytes (statement_with d (expression_in d) (λ p. block_in d p) (λ u p. item_in d u p) t l) ≡ field_bytes (tag_of (Sort.Statement t)) l
   unfolding statement_bytes block_bytes
   statement_parts_lem (StatementSort.Assign kind) base owner l h fine =
@@ -134,14 +132,14 @@ module _ (d : ℕ) (level : LevelReturns d) where
   statement_next : Returns is_statement (statement_body (suc d)) (λ s l. statement_in (suc d) s l) statement_bytes
   unfolding statement_body statement_in
   statement_next base s l h fine =
-      let c = statement_fine s (λ t. statement_parts (field_by (expression_body d)) (field_by (block_body d)) (field_by (item_body d)) t (base + 3) base l) base fine in
+      let c = statement_fine s (λ t. statement_parts (field_by (expression_body d)) (field_by (block_body d)) (field_by (item_body d)) t (base + 3) base l) (fault_at base) fine in
       subst (λ (s : Sort). Returned is_statement (statement_body (suc d)) (λ s l. statement_in (suc d) s l) statement_bytes s l) (sym c.1)
       (record { is = refl; written = statement_parts_lem c.0 (base + 3) base l h c.2 })
 
   block_next : Returns (is_sort Sort.Block) (block_body (suc d)) (block_at (suc d)) block_bytes
   unfolding block_body block_bytes
   block_next base s l h fine =
-      let c = sort_fine Sort.Block s (until_end (field_by (statement_body d)) (base + 3) base l) base fine in
+      let c = sort_fine Sort.Block s (until_end (field_by (statement_body d)) (base + 3) base l) (fault_at base) fine in
       let read : block_at (suc d) s l ≡ block_in (suc d) l = rw c.0 in
       record {
         is = c.0;
@@ -151,7 +149,7 @@ module _ (d : ℕ) (level : LevelReturns d) where
   item_next : Returns (is_sort Sort.Item) (item_body (suc d)) (λ s l. item_in (suc d) s l) item_bytes
   unfolding item_body item_in item_bytes expression_bytes
   item_next base s l h fine =
-      let c = sort_fine Sort.Item s (then_by (field_by (constant_body d)) (then_by (field_by (block_body d)) ended) (base + 3) base l) base fine in
+      let c = sort_fine Sort.Item s (then_by (field_by (constant_body d)) (then_by (field_by (block_body d)) ended) (base + 3) base l) (fault_at base) fine in
       let n = next_returns (is_sort (Sort.Expression ExpressionSort.Constant)) (constant_body d) constant_at expression_bytes constant_known
       (constant_returns d) no_expression (base + 3) base l h (then_by (field_by (block_body d)) ended) c.1 in
       let block = block_last n.place base (after_front l) n.left n.rest in
@@ -172,16 +170,16 @@ level_returns (suc d) =
     record { statement = statement_next d inner; block = block_next d inner; item = item_next d inner }
 
 -- a statement at the front, the statements of a payload, and the items at the front with their default block, as they stood
-pub statement_written : (d base owner : ℕ) (l : List ℕ) (m : ℕ) → AllBytes l → field_by (statement_body d) base owner l ≡ Step.Past m →
+pub statement_written : (d base owner : ℕ) (l : List ℕ) (m : ℕ) → AllBytes l → field_by (statement_body d) base owner l ≡ Ok m →
     take m l ≡ statement_bytes (front_by (λ s p. statement_in d s p) no_statement l)
 statement_written d base owner l m h e =
     front_written is_statement (statement_body d) (λ s p. statement_in d s p) statement_bytes statement_known (level_returns d).statement no_statement base owner l h m e
 
-pub block_written : (d base owner : ℕ) (l : List ℕ) → AllBytes l → until_end (field_by (statement_body d)) base owner l ≡ Judged.Fine →
+pub block_written : (d base owner : ℕ) (l : List ℕ) → AllBytes l → until_end (field_by (statement_body d)) base owner l ≡ faultless →
     block_payload (block_in (suc d) l) ≡ l
 block_written d base owner l h fine = statements_return d (level_returns d) base owner l h fine
 
 pub items_written : (d base owner : ℕ) (l : List ℕ) → AllBytes l →
-    then_by (many (is_sort Sort.Item) (field_by (item_body d))) (then_by (field_by (block_body d)) ended) base owner l ≡ Judged.Fine →
+    then_by (many (is_sort Sort.Item) (field_by (item_body d))) (then_by (field_by (block_body d)) ended) base owner l ≡ faultless →
     items_bytes (items_from (unplaced (read_placed (is_sort Sort.Item) (λ s p. item_in d s p) 0 l)) (block_front (λ p. block_in d p) (after_items d l))) ≡ l
 items_written d base owner l h fine = items_return d (level_returns d) base owner l h fine

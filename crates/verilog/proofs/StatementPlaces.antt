@@ -1,4 +1,6 @@
 -- Whether statements, blocks and items have a fault does not depend on where they stand; by induction on the levels that may be opened.
+use Rattle.tagged.specs.Answers.{fault_at}
+use Rattle.std.specs.Prelude.{Err}
 use mathlib.Core.Path.{◌≡◌}
 use mathlib.Core.Bool.{cond}
 use Prim.Native.Nat.{ℕ, zero, suc, ◌+◌}
@@ -8,7 +10,6 @@ use Rattle.tagged.specs.Fields.{Judge, Stepper, field_by, then_by, fixed_then, e
 use Rattle.tagged.specs.declared.sorts.StatementSort.{StatementSort}
 use Rattle.tagged.specs.declared.sorts.ExpressionSort.TheVariants as ExpressionSort
 use Rattle.tagged.specs.declared.sorts.Sort.{Sort}
-use Rattle.tagged.specs.declared.fields.Judged.{Judged}
 use Rattle.verilog.specs.Form.{expression_body, constant_body, statement_parts, statement_body, block_body, item_body}
 use Rattle.tagged.proofs.AnyPlace.{AnywhereBody, AnywhereJudge, AnywhereStep, field_anywhere, then_anywhere, fixed_anywhere, ended_anywhere, many_anywhere, until_anywhere}
 use Rattle.tagged.proofs.JudgeLaws.{sort_fine}
@@ -16,9 +17,9 @@ use Rattle.verilog.proofs.SortChoices.{statement_fine}
 use Rattle.verilog.proofs.ExpressionBytes.{expression_anywhere}
 
 -- a judge of one sort
-pub sort_anywhere : (k : Sort) (judge : Judge) → AnywhereJudge judge → AnywhereBody (λ at s l. cond (is_sort k s) (judge (at + 3) at l) (Judged.Refused at))
+pub sort_anywhere : (k : Sort) (judge : Judge) → AnywhereJudge judge → AnywhereBody (λ at s l. cond (is_sort k s) (judge (at + 3) at l) (Err (fault_at at)))
 sort_anywhere k judge any a b s l fine =
-    let c = sort_fine k s (judge (a + 3) a l) a fine in
+    let c = sort_fine k s (judge (a + 3) a l) (fault_at a) fine in
     rw c.0 (any (a + 3) a (b + 3) b l c.1)
 
 pub constant_anywhere : (d : ℕ) → AnywhereBody (constant_body d)
@@ -56,7 +57,7 @@ level_anywhere (suc d) =
     (field_anywhere (expression_body d) (expression_anywhere d)) block-step (field_anywhere (item_body d) inner.item) in
     record {
       statement = λ a b s l fine.
-          let c = statement_fine s (λ t. statement_parts (field_by (expression_body d)) (field_by (block_body d)) (field_by (item_body d)) t (a + 3) a l) a fine in
+          let c = statement_fine s (λ t. statement_parts (field_by (expression_body d)) (field_by (block_body d)) (field_by (item_body d)) t (a + 3) a l) (fault_at a) fine in
           rw c.1 (parts c.0 (a + 3) a (b + 3) b l c.2);
       block = sort_anywhere Sort.Block _ (until_anywhere (field_by (statement_body d)) (field_anywhere (statement_body d) inner.statement));
       item = sort_anywhere Sort.Item _ (then_anywhere (field_by (constant_body d)) (then_by (field_by (block_body d)) ended)

@@ -1,4 +1,5 @@
 -- Statements, blocks and items to bytes: what fits its bytes and is not too deep has no fault and is read as it was; by induction on the levels that may be opened.
+use Rattle.std.specs.Prelude.{Ok}
 use mathlib.Core.Path.{◌≡◌, refl, sym, ap, ap₂, ◌∙◌, subst}
 use mathlib.Core.List.{List, ◌∷◌, ◌++◌, append_assoc}
 use Prim.Native.Nat.{ℕ, zero, suc, ◌+◌, ◌≤◌, ◌<◌}
@@ -7,12 +8,10 @@ use lib.ListN.{length, get_or, drop, length-append}
 use lib.Seq.{drop_at}
 use Rattle.tagged.specs.Bytes.{four_bytes, four_of}
 use Rattle.tagged.specs.Sorts.{sort_of, tag_of, is_statement, is_sort}
-use Rattle.tagged.specs.Fields.{field_bytes, all_bytes_of, field_by, then_by, ended, many, passed_bytes, until_end, read_placed, unplaced}
+use Rattle.tagged.specs.Fields.{faultless, field_bytes, all_bytes_of, field_by, then_by, ended, many, passed_bytes, until_end, read_placed, unplaced, Step}
 use Rattle.tagged.specs.declared.sorts.StatementSort.{StatementSort}
 use Rattle.tagged.specs.declared.sorts.ExpressionSort.TheVariants as ExpressionSort
 use Rattle.tagged.specs.declared.sorts.Sort.{Sort}
-use Rattle.tagged.specs.declared.fields.Judged.{Judged}
-use Rattle.tagged.specs.declared.fields.Step.{Step}
 use Rattle.tagged.proofs.ListBytes.{Stops, Stands, Each, none, more, list_many}
 use Rattle.verilog.specs.Tree.{constant, Statement, assign, assign_bit, if_else, case, Block, end, ◌then◌, Items, default, item}
 use Rattle.verilog.specs.Form.{expression_bytes, statement_field, statement_bytes, block_payload, items_bytes, block_bytes, expression_body, constant_body, statement_body, block_body, item_body}
@@ -52,7 +51,7 @@ statements_each d level (s then b) fits deep long =
     more (level.statement s fits.0 (omega arith) (omega arith)) (statements_each d level b fits.1 (omega arith) (omega arith))
 
 module _ (d : ℕ) (level : LevelStands d) (b : Block) (fits : FitsBlock b) (deep : statements_depth b ≤ d) (long : length (block_payload b) ≤ longest_field) where
-  statements_fine : (base owner : ℕ) → until_end (field_by (statement_body d)) base owner (block_payload b) ≡ Judged.Fine
+  statements_fine : (base owner : ℕ) → until_end (field_by (statement_body d)) base owner (block_payload b) ≡ faultless
   statements_fine base owner =
       rw (block_bytes_lem b) (until_stands is_statement (statement_body d) (λ s l. statement_in d s l) statement_bytes base owner (statements_each d level b fits deep long))
 
@@ -128,13 +127,13 @@ module _ (d : ℕ) (level : LevelStands d) where
     last = default_stands items fits deep long
 
     passed : (base owner : ℕ) →
-        many (is_sort Sort.Item) (field_by (item_body d)) base owner (all_bytes_of item_bytes (items_of items) ++ block_bytes (default_of items)) ≡ Step.Past
+        many (is_sort Sort.Item) (field_by (item_body d)) base owner (all_bytes_of item_bytes (items_of items) ++ block_bytes (default_of items)) ≡ Ok
         (length (all_bytes_of item_bytes (items_of items)))
     passed base owner = list_many (is_sort Sort.Item) (item_body d) (λ s l. item_in d s l) item_bytes base owner (block_bytes (default_of items)) each
         (block_stops (default_of items))
 
     items_fine : (base owner : ℕ) →
-        then_by (many (is_sort Sort.Item) (field_by (item_body d))) (then_by (field_by (block_body d)) ended) base owner (items_bytes items) ≡ Judged.Fine
+        then_by (many (is_sort Sort.Item) (field_by (item_body d))) (then_by (field_by (block_body d)) ended) base owner (items_bytes items) ≡ faultless
     items_fine base owner =
         rw (items_bytes_lem items) (then_written (many (is_sort Sort.Item) (field_by (item_body d))) (then_by (field_by (block_body d)) ended) base owner
         (all_bytes_of item_bytes (items_of items)) (block_bytes (default_of items)) (passed base owner)
@@ -286,14 +285,14 @@ level_stands (suc d) =
 
 -- what is written has no fault, and is read as it was: a statement, the statements of a payload, the items with their default block
 module _ (d : ℕ) (s : Statement) (fits : FitsStatement s) (deep : statement_depth s ≤ d) (long : length (statement_bytes s) ≤ longest_field) (after : List ℕ) where
-  pub statement_passed : (base owner : ℕ) → field_by (statement_body d) base owner (statement_bytes s ++ after) ≡ Step.Past (length (statement_bytes s))
+  pub statement_passed : (base owner : ℕ) → field_by (statement_body d) base owner (statement_bytes s ++ after) ≡ Ok (length (statement_bytes s))
   statement_passed base owner = stands_passed ((level_stands d).statement s fits deep long) after base owner
 
   pub statement_read : front_by (λ t p. statement_in d t p) no_statement (statement_bytes s ++ after) ≡ s
   statement_read = stands_front ((level_stands d).statement s fits deep long) after no_statement
 
 module _ (d : ℕ) (b : Block) (fits : FitsBlock b) (deep : statements_depth b ≤ d) (long : length (block_payload b) ≤ longest_field) where
-  pub block_passed : (base owner : ℕ) → until_end (field_by (statement_body d)) base owner (block_payload b) ≡ Judged.Fine
+  pub block_passed : (base owner : ℕ) → until_end (field_by (statement_body d)) base owner (block_payload b) ≡ faultless
   block_passed base owner = statements_fine d (level_stands d) b fits deep long base owner
 
   pub block_read : block_in (suc d) (block_payload b) ≡ b
@@ -301,7 +300,7 @@ module _ (d : ℕ) (b : Block) (fits : FitsBlock b) (deep : statements_depth b �
 
 module _ (d : ℕ) (items : Items) (fits : FitsItems items) (deep : items_depth items ≤ d) (long : length (items_bytes items) ≤ longest_field) where
   pub items_passed : (base owner : ℕ) →
-      then_by (many (is_sort Sort.Item) (field_by (item_body d))) (then_by (field_by (block_body d)) ended) base owner (items_bytes items) ≡ Judged.Fine
+      then_by (many (is_sort Sort.Item) (field_by (item_body d))) (then_by (field_by (block_body d)) ended) base owner (items_bytes items) ≡ faultless
   items_passed base owner = items_fine d (level_stands d) items fits deep long base owner
 
   pub items_read :

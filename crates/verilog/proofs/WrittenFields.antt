@@ -1,5 +1,6 @@
 -- A field that was written, at the front of bytes: how it is opened, what follows it, and how the list of fields goes on past it.
 -- From the laws of fields in crate tagged. Assumes nothing.
+use Rattle.std.specs.Prelude.{Ok}
 use mathlib.Core.Path.{◌≡◌, ap, ◌∙◌}
 use mathlib.Core.List.{List, ◌∷◌, ◌++◌}
 use Prim.Native.Nat.{ℕ, ◌+◌, ◌<◌}
@@ -10,7 +11,6 @@ use Rattle.tagged.specs.Sorts.{tag_of}
 use Rattle.tagged.specs.Fields.{field_bytes, open_of, fields_at}
 use Rattle.tagged.specs.declared.sorts.ExpressionSort.TheVariants as ExpressionSort
 use Rattle.tagged.specs.declared.sorts.Sort.{Sort}
-use Rattle.tagged.specs.declared.fields.Opened.{Opened}
 use Rattle.tagged.proofs.SortLaws.{sort_back}
 use Rattle.tagged.proofs.FieldLaws.{whole_open}
 use Rattle.tagged.proofs.ListBytes.{field_whole, field_payload, field_after}
@@ -21,9 +21,9 @@ use Rattle.verilog.proofs.ExpressionBytes.{four_length}
 
 -- a field of this sort and payload, and what follows it
 module _ (s : Sort) (p after : List ℕ) (short : length p < 65536) where
-  opened : open_of 0 0 (field_bytes (tag_of s) p ++ after) ≡ Opened.Field s (length p)
+  opened : open_of 0 0 (field_bytes (tag_of s) p ++ after) ≡ Ok (s, (length p))
   opened =
-      whole_open 0 0 (field_bytes (tag_of s) p ++ after) (field_whole (tag_of s) p after short) ∙ ap (λ (x : Sort). Opened.Field x (length p)) (sort_back s)
+      whole_open 0 0 (field_bytes (tag_of s) p ++ after) (field_whole (tag_of s) p after short) ∙ ap (λ (x : Sort). Ok (x, (length p))) (sort_back s)
 
   pub front_field : {A : Type 0} (read : Sort → List ℕ → A) (none : A) → front_by read none (field_bytes (tag_of s) p ++ after) ≡ read s p
   front_field read none = rw (opened, field_payload (tag_of s) p after)

@@ -4,7 +4,7 @@ use Rattle.tagged.specs.Limits.{longest_module}
 use Rattle.tagged.specs.Files.{file_answer}
 use Rattle.tagged.specs.Refusals.{first_refusal, after_form, after_answer}
 use Rattle.tagged.specs.declared.answers.Rule.{Rule}
-use Rattle.tagged.specs.declared.answers.Answer.{Answer}
+use Rattle.tagged.specs.Answers.{Answer}
 use Rattle.verilog.specs.Tree.{Module}
 use Rattle.verilog.specs.Form.{module_form}
 use Rattle.verilog.specs.Reading.{module_in}

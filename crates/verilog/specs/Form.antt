@@ -1,15 +1,14 @@
 -- The module's bytes, and refusal 2, the first fault met in reading them from left to right.
-use Rattle.std.specs.Prelude.{cond, List, [], ◌∷◌, ◌++◌, ℕ, zero, suc, ◌+◌}
+use Rattle.tagged.specs.Answers.{fault_at}
+use Rattle.std.specs.Prelude.{Err, cond, List, [], ◌∷◌, ◌++◌, ℕ, zero, suc, ◌+◌}
 use Rattle.tagged.specs.Limits.{deepest}
 use Rattle.tagged.specs.Bytes.{four_bytes}
 use Rattle.tagged.specs.Sorts.{tag_of, on_statement, on_expression, is_sort}
-use Rattle.tagged.specs.Fields.{Judge, Stepper, Body, field_bytes, all_bytes_of, field_by, then_by, fixed_then, ended, many, until_end}
+use Rattle.tagged.specs.Fields.{Judge, Stepper, Body, field_bytes, all_bytes_of, field_by, then_by, fixed_then, ended, many, until_end, Step}
 use Rattle.tagged.specs.Declarations.{declaration_bytes, declarations_step}
 use Rattle.tagged.specs.declared.sorts.StatementSort.{StatementSort}
 use Rattle.tagged.specs.declared.sorts.ExpressionSort.{ExpressionSort}
 use Rattle.tagged.specs.declared.sorts.Sort.{Sort}
-use Rattle.tagged.specs.declared.fields.Judged.{Judged}
-use Rattle.tagged.specs.declared.fields.Step.{Step}
 use Rattle.verilog.specs.Tree.{Expression, constant, variable, fixed_bit, chosen_bit, one, two, Statement, assign, assign_bit, if_else, case, Block, end, ◌then◌, Items, default, item, Module}
 
 -- how it is written
@@ -63,7 +62,7 @@ module_bytes m = field_bytes (tag_of Sort.Module) (module_payload m)
 
 -- a field where none may be opened any more, or of a wrong tag
 abbrev pub too_deep : Body
-too_deep at s l = Judged.Refused at
+too_deep at s l = Err (fault_at at)
 
 -- what an expression's payload holds; `inner` judges an inner expression
 abbrev pub expression_parts : Stepper → ExpressionSort → Judge
@@ -75,7 +74,7 @@ expression_parts inner (ExpressionSort.One op) = then_by inner ended
 expression_parts inner (ExpressionSort.Two op) = then_by inner (then_by inner ended)
 
 abbrev pub expression_of : Stepper → Body
-expression_of inner at s l = on_expression s (λ e. expression_parts inner e (at + 3) at l) (Judged.Refused at)
+expression_of inner at s l = on_expression s (λ e. expression_parts inner e (at + 3) at l) (Err (fault_at at))
 
 unfoldable pub expression_body : ℕ → Body
 expression_body zero = too_deep
@@ -83,7 +82,7 @@ expression_body (suc d) = expression_of (field_by (expression_body d))
 
 -- an item's constant
 abbrev pub constant_of : Body
-constant_of at s l = cond (is_sort (Sort.Expression ExpressionSort.Constant) s) (fixed_then 5 ended (at + 3) at l) (Judged.Refused at)
+constant_of at s l = cond (is_sort (Sort.Expression ExpressionSort.Constant) s) (fixed_then 5 ended (at + 3) at l) (Err (fault_at at))
 
 unfoldable pub constant_body : ℕ → Body
 constant_body zero = too_deep
@@ -97,15 +96,15 @@ statement_parts e b i StatementSort.If = then_by e (then_by b (then_by b ended))
 statement_parts e b i StatementSort.Case = then_by e (then_by (many (is_sort Sort.Item) i) (then_by b ended))
 
 abbrev pub statement_of : Stepper → Stepper → Stepper → Body
-statement_of e b i at s l = on_statement s (λ t. statement_parts e b i t (at + 3) at l) (Judged.Refused at)
+statement_of e b i at s l = on_statement s (λ t. statement_parts e b i t (at + 3) at l) (Err (fault_at at))
 
 -- a block's payload is statements until the end
 abbrev pub block_of : Stepper → Body
-block_of inner at s l = cond (is_sort Sort.Block s) (until_end inner (at + 3) at l) (Judged.Refused at)
+block_of inner at s l = cond (is_sort Sort.Block s) (until_end inner (at + 3) at l) (Err (fault_at at))
 
 -- an item's is a constant and a block
 abbrev pub item_of : Stepper → Stepper → Body
-item_of c b at s l = cond (is_sort Sort.Item s) (then_by c (then_by b ended) (at + 3) at l) (Judged.Refused at)
+item_of c b at s l = cond (is_sort Sort.Item s) (then_by c (then_by b ended) (at + 3) at l) (Err (fault_at at))
 
 unfoldable mutual
   pub statement_body : ℕ → Body
@@ -122,7 +121,7 @@ unfoldable mutual
 
 -- a process's payload is statements until the end
 abbrev pub process_of : Stepper → Body
-process_of inner at s l = cond (is_sort Sort.Process s) (until_end inner (at + 3) at l) (Judged.Refused at)
+process_of inner at s l = cond (is_sort Sort.Process s) (until_end inner (at + 3) at l) (Err (fault_at at))
 
 -- the outer field has depth 1, a process 2, its statements 3
 abbrev pub process_body : ℕ → Body
@@ -131,7 +130,7 @@ process_body (suc d) = process_of (field_by (statement_body d))
 
 -- declarations, then processes
 abbrev pub module_of : Stepper → Body
-module_of p at s l = cond (is_sort Sort.Module s) (then_by declarations_step (until_end p) (at + 3) at l) (Judged.Refused at)
+module_of p at s l = cond (is_sort Sort.Module s) (then_by declarations_step (until_end p) (at + 3) at l) (Err (fault_at at))
 
 abbrev pub module_body : ℕ → Body
 module_body zero = too_deep

@@ -1,5 +1,6 @@
 -- Document 01, the module's half: its tree, its bytes, its refusals, and one cycle.
 pub mod Tree
+pub mod Reader
 pub mod Form
 pub mod Reading
 pub mod Nodes

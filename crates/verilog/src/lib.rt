@@ -3,4 +3,5 @@
 
 pub mod form;
 pub mod parts;
+mod reader;
 pub mod reading;

@@ -6,10 +6,10 @@ use tagged::bytes::from;
 use tagged::parts::{Part, name_in};
 
 // The part of a file that holds the name of the variable of this number; without such a variable, nothing at its end.
+#[tactic(auto, unfolding(crate::specs::Parts::name_part))]
 pub fn name_part(file: &[u8], number: usize) -> Part
     requires { length file.now ≤ 2 ^ 40 }
     ensures { result ≡ name_part number file.now }
 {
-    let payload = from(file, 3);
-    name_in(payload, 3, number)
+    name_in(from(file, 3), 3, number)
 }

@@ -1,18 +1,17 @@
 -- An accepted module file: it has a length and a form without a fault, is short, has at most 64 variables, their widths are as its table tells them,
 -- and no register has both kinds of assignment.
+use Rattle.std.specs.Prelude.{Ok, None}
 use mathlib.Core.Path.{◌≡◌, refl, ap, ◌∙◌}
 use mathlib.Core.List.{List, map}
 use Prim.Native.Nat.{ℕ, ◌≤◌}
 use native.Mathlib.Omega.{arith}
 use lib.ListN.{length, take, drop, length-take, length-drop}
+use Rattle.tagged.specs.Answers.{acceptance}
 use Rattle.tagged.specs.Limits.{longest_module, deepest, most_variables}
 use Rattle.tagged.specs.Files.{file_answer}
 use Rattle.tagged.specs.Declarations.{width_of, declarations_in, variable_table}
 use Rattle.tagged.specs.declared.declarations.VariableTable.{VariableTable}
 use Rattle.tagged.specs.declared.answers.Rule.TheVariants as Rule
-use Rattle.tagged.specs.declared.answers.Found.TheVariants as Found
-use Rattle.tagged.specs.declared.answers.Answer.TheVariants as Answer
-use Rattle.tagged.specs.declared.fields.Step.TheVariants as Step
 use Rattle.tagged.proofs.RefusalLaws.{NoneBroken, more, accepted_none}
 use Rattle.tagged.proofs.FileLaws.{file_fits, accepted_parts, form_whole}
 use Rattle.tagged.proofs.TableLaws.{count_fits, widths_long, marks_long}
@@ -26,19 +25,19 @@ use Rattle.verilog.specs.Run.{file_widths}
 use Rattle.verilog.proofs.AcceptedModule.{accepted_declarations}
 
 -- rule 9 has no place in an accepted tree
-pub one_kind : (m : Module) → tree_answer 3 m ≡ Answer.Accepted → module_broken 3 m Rule.BothKinds ≡ Found.Nowhere
+pub one_kind : (m : Module) → tree_answer 3 m ≡ acceptance → module_broken 3 m Rule.BothKinds ≡ None
 unfolding tree_answer
 one_kind m e = go (accepted_none (module_broken 3 m) module_rules e)
   where
-    go : NoneBroken (module_broken 3 m) module_rules → module_broken 3 m Rule.BothKinds ≡ Found.Nowhere
+    go : NoneBroken (module_broken 3 m) module_rules → module_broken 3 m Rule.BothKinds ≡ None
     go (more value (more name (more count (more reference (more widths (more bits (more kinds others))))))) = kinds
 
-module _ (file : List ℕ) (accepted : module_answer file ≡ Answer.Accepted) where
-  pub length_accepted : file_answer longest_module file ≡ Answer.Accepted
+module _ (file : List ℕ) (accepted : module_answer file ≡ acceptance) where
+  pub length_accepted : file_answer longest_module file ≡ acceptance
   unfolding module_answer
   length_accepted = (accepted_parts (file_answer longest_module file) (module_form file) (tree_answer 3 (module_in file)) accepted).1
 
-  pub form_passed : module_form file ≡ Step.Past (length file)
+  pub form_passed : module_form file ≡ Ok (length file)
   unfolding module_answer module_form
   form_passed =
       let parts = accepted_parts (file_answer longest_module file) (module_form file) (tree_answer 3 (module_in file)) accepted in

@@ -1,10 +1,11 @@
 -- Where no variable is assigned by both kinds, the table of first assignments tells which are assigned by non-blocking anywhere. The cycle asks the tree for that:
 -- some field of the tree is such an assignment, by induction on the tree, and all assignments to a variable are of the first one's kind.
+use Rattle.std.specs.Prelude.{Option, None}
 use mathlib.Core.Path.{◌≡◌, refl, ap, ap₂, fun_ext, ◌∙◌, sym}
-use mathlib.Core.Bool.{Bool, true, false, ◌&&◌, ◌||◌, or-false}
+use mathlib.Core.Bool.{Bool, false, ◌&&◌, ◌||◌, or-false}
 use mathlib.Core.List.Memᴰ
 use mathlib.Core.List.{List, [], ◌∷◌, ◌++◌, map}
-use Prim.Native.Nat.{ℕ, ◌+◌, ◌%◌, ◌<◌}
+use Prim.Native.Nat.{ℕ, ◌+◌, ◌<◌}
 use lib.Dec.{eqb}
 use lib.ListN.{length, get_or}
 use borrow.Author.Tests.{eq-eqb}
@@ -12,20 +13,20 @@ use Rattle.tagged.specs.Limits.{most_variables}
 use Rattle.tagged.specs.Fields.{Placed, unplaced}
 use Rattle.tagged.specs.declared.sorts.Kind.{Kind}
 use Rattle.tagged.specs.declared.answers.Rule.TheVariants as Rule
-use Rattle.tagged.specs.declared.answers.Found.TheVariants as Found
 use Rattle.verilog.specs.Tree.{Expression, Statement, assign, assign_bit, if_else, case, Block, end, ◌then◌, Items, default, item, Module}
 use Rattle.verilog.specs.Form.{expression_bytes, statement_bytes, block_payload, process_bytes}
 use Rattle.verilog.specs.Nodes.{Node, past, expression_nodes, statement_nodes, block_nodes, items_nodes, process_nodes}
 use Rattle.verilog.specs.Rules.{is_assignment, some_node, module_broken}
 use Rattle.verilog.specs.Cycle.{is_non_blocking, delays, delays_block, delays_items, delays_any}
 use Rattle.verilog.proofs.DeclarationsKept.{declaration_node}
-use Rattle.verilog_check.specs.Tables.{kind_bit, first_code}
-use Rattle.verilog_check.proofs.Firsts.{code_of, first_in}
-use Rattle.verilog_check.proofs.AssignmentCodes.{code_kind, assignment_code}
+use Rattle.verilog_check.specs.declared.assignments.First.{First}
+use Rattle.verilog_check.specs.Tables.{kind_of}
+use Rattle.verilog_check.proofs.Firsts.{as_first, first_in}
+use Rattle.verilog_check.proofs.AssignedFirsts.{assignment_first}
 use Rattle.verilog_check.proofs.EachField.{each_expression}
 use Rattle.verilog_check.proofs.SomeField.{some_joined, each_none, first_decides}
 use Rattle.verilog_check.proofs.RulesByTables.{after_declared, process_fields}
-use Rattle.verilog_check.proofs.TestsByCode.{of_both_kinds}
+use Rattle.verilog_check.proofs.TestsByFirst.{of_both_kinds}
 use Rattle.verilog_check.proofs.FirstAssignments.{part_of_first}
 
 module _ (v : ℕ) where
@@ -75,28 +76,25 @@ module _ (v : ℕ) where
       let next : ℕ = at + length (process_bytes b) in
       some_joined delaying (block_nodes p (at + 3) b) (process_nodes (p + 1) next l) ∙ ap₂ ◌||◌ (block_delays p (at + 3) b) (processes_delay (p + 1) next l)
 
-  -- the same by codes
-  delaying_code : (n : Node) → delaying n ≡ eqb (code_of v n % 2) 1
-  delaying_code n = assignment_code n v (λ code. eqb (code % 2) 1) refl (λ kind u. is_non_blocking kind && eqb u v) here another
+  -- the same by first assignments
+  delaying_first : (n : Node) → delaying n ≡ is_non_blocking (kind_of (as_first v n))
+  delaying_first n = assignment_first n v (λ first. is_non_blocking (kind_of first)) refl (λ kind u. is_non_blocking kind && eqb u v) here another
     where
-      bit : (kind : Kind) → (is_non_blocking kind && true) ≡ eqb (kind_bit kind) 1
-      bit Kind.Blocking = refl
-      bit Kind.NonBlocking = refl
-
-      here : (kind : Kind) → (is_non_blocking kind && eqb v v) ≡ eqb (first_code (n.in_process + 1) kind % 2) 1
-      here kind = rw (eq-eqb v v refl, code_kind n.in_process kind) (bit kind)
+      here : (kind : Kind) → (is_non_blocking kind && eqb v v) ≡ is_non_blocking kind
+      here Kind.Blocking = refl
+      here Kind.NonBlocking = eq-eqb v v refl
 
       another : (kind : Kind) (u : ℕ) → eqb u v ≡ false → (is_non_blocking kind && eqb u v) ≡ false
       another Kind.Blocking u e = refl
       another Kind.NonBlocking u e = e
 
 -- a variable is assigned by non-blocking anywhere just where its first assignment in the table is non-blocking
-pub delayed_by_first : (base : ℕ) (m : Module) (firsts : List ℕ) →
-    ((v : ℕ) → v < most_variables → get_or firsts v 0 ≡ first_in v (unplaced (process_fields base m))) →
-    module_broken base m Rule.BothKinds ≡ Found.Nowhere → (v : ℕ) → v < most_variables → delays_any m.processes v ≡ eqb (get_or firsts v 0 % 2) 1
+pub delayed_by_first : (base : ℕ) (m : Module) (firsts : List (Option First)) →
+    ((v : ℕ) → v < most_variables → get_or firsts v None ≡ first_in v (unplaced (process_fields base m))) →
+    module_broken base m Rule.BothKinds ≡ None → (v : ℕ) → v < most_variables → delays_any m.processes v ≡ is_non_blocking (kind_of (get_or firsts v None))
 delayed_by_first base m firsts tabled kinds v few =
     let fields : List Node = unplaced (process_fields base m) in
-    sym (processes_delay v 0 (after_declared base m) m.processes) ∙ ap (λ (test : Node → Bool). some_node test fields) (fun_ext (delaying_code v))
-    ∙ first_decides v (λ code. eqb (code % 2) 1) refl fields
-    (λ n i some. ap (λ (k : ℕ). eqb k 1) (part_of_first base m of_both_kinds kinds v n (Memᴰ.append_right (map declaration_node m.declarations) i) some))
-    ∙ ap (λ (code : ℕ). eqb (code % 2) 1) (sym (tabled v few))
+    sym (processes_delay v 0 (after_declared base m) m.processes) ∙ ap (λ (test : Node → Bool). some_node test fields) (fun_ext (delaying_first v))
+    ∙ first_decides v (λ first. is_non_blocking (kind_of first)) refl fields
+    (λ n i some. ap is_non_blocking (part_of_first base m of_both_kinds kinds v n (Memᴰ.append_right (map declaration_node m.declarations) i) some))
+    ∙ ap (λ (first : Option First). is_non_blocking (kind_of first)) (sym (tabled v few))

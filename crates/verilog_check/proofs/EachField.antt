@@ -1,5 +1,6 @@
 -- Each field of a list has a property: where every expression, statement and item has it, each field inside a process has. By induction on the tree.
 -- So a test that each field fails has no place.
+use Rattle.std.specs.Prelude.{None}
 use mathlib.Core.Path.{◌≡◌}
 use mathlib.Core.Bool.{Bool, false}
 use mathlib.Core.List.{List, [], ◌∷◌, ◌++◌}
@@ -8,10 +9,8 @@ use lib.ListN.{length}
 use Rattle.tagged.specs.Fields.{Placed}
 use Rattle.tagged.specs.Stands.{Stands, first, next}
 use Rattle.tagged.specs.Refusals.{first_broken}
-use Rattle.tagged.specs.declared.answers.Found.TheVariants as Found
 use Rattle.tagged.proofs.RefusalLaws.{passes_nowhere}
-use Rattle.verilog.specs.Tree.{Expression, constant, variable, fixed_bit, chosen_bit, one, two, Statement, assign, assign_bit, if_else, case}
-use Rattle.verilog.specs.Tree.{Block, end, ◌then◌, Items, default, item}
+use Rattle.verilog.specs.Tree.{Expression, constant, variable, fixed_bit, chosen_bit, one, two, Statement, assign, assign_bit, if_else, case, Block, end, ◌then◌, Items, default, item}
 use Rattle.verilog.specs.Form.{expression_bytes, statement_bytes, block_payload, process_bytes}
 use Rattle.verilog.specs.Nodes.{What, process, expression, statement, item_of, Node, past, expression_nodes, statement_nodes, block_nodes, items_nodes, process_nodes}
 
@@ -30,7 +29,7 @@ module _ {P : Node → Type 0} where
   each_stands {before = before} {place = place} {n = n} no_field x3 = elim x3 [ ]
 
 pub each_fails : (test : List Node → Node → Bool) (before : List Node) {l : List (Placed Node)} → Each (λ n. (earlier : List Node) → test earlier n ≡ false) l →
-    first_broken test before l ≡ Found.Nowhere
+    first_broken test before l ≡ None
 each_fails test before {l} fails = passes_nowhere test before l (λ passed p n s. each_stands fails s (before ++ passed))
 
 -- a field in process number p

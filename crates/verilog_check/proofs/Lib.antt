@@ -1,6 +1,5 @@
 -- Laws of the check: the walk over the bytes finds the first field of the tree, the tables tell what the rules ask, and so the answer is the tree's.
 pub mod TableWidths
-pub mod OtherArms
 pub mod WalkSteps
 pub mod WalkFields
 pub mod WalkExpressions
@@ -15,12 +14,13 @@ pub mod SomeField
 pub mod ProcessCount
 pub mod TableTests
 pub mod RulesByTables
-pub mod AssignmentCodes
+pub mod AssignedFirsts
 pub mod FirstUnlike
-pub mod TestsByCode
+pub mod TestsByFirst
 pub mod Existing
 pub mod FirstAssignments
 pub mod Delayed
 pub mod TreeAnswers
 pub mod AcceptedFile
 pub mod OneResult
+pub mod FewFields

@@ -2,7 +2,7 @@
 use mathlib.Core.Path.{◌≡◌}
 use mathlib.Core.List.{List}
 use Prim.Native.Nat.{ℕ}
-use Rattle.tagged.specs.declared.answers.Answer.{Answer}
+use Rattle.tagged.specs.Answers.{Answer}
 use Rattle.tagged.proofs.AnswerLaws.{one_answer_lem}
 use Rattle.verilog.specs.Answer.{module_answer}
 

@@ -1,5 +1,6 @@
 -- Rule 5 on processes has the same first place by the processes counted before a process as by its number: before process number p there are p.
 -- By induction on the processes.
+use Rattle.std.specs.Prelude.{Option, Some}
 use mathlib.Core.Path.{◌≡◌, refl, sym, ap₂, ◌∙◌}
 use mathlib.Core.Bool.{Bool, true, false}
 use mathlib.Core.List.{List, [], ◌∷◌, ◌++◌, map}
@@ -13,13 +14,14 @@ use Rattle.tagged.specs.Fields.{Placed, unplaced}
 use Rattle.tagged.specs.Refusals.{first_broken, or_else}
 use Rattle.tagged.specs.Declarations.{Declaration}
 use Rattle.tagged.specs.declared.answers.Rule.TheVariants as Rule
-use Rattle.tagged.specs.declared.answers.Found.{Found}
+use Rattle.tagged.specs.Answers.{Found}
 use Rattle.tagged.proofs.FoundLaws.{found_append}
 use Rattle.verilog.specs.Tree.{Block}
 use Rattle.verilog.specs.Form.{process_bytes}
 use Rattle.verilog.specs.Nodes.{process, Node, block_nodes, process_nodes}
 use Rattle.verilog.specs.Rules.{one_more, count_processes, by_field, breaks}
 use Rattle.verilog.proofs.DeclarationsKept.{declaration_node}
+use Rattle.verilog_check.specs.declared.assignments.First.{First}
 use Rattle.verilog_check.specs.Judged.{judged}
 use Rattle.verilog_check.proofs.EachField.{Each, no_field, one_more_lem, each_fails, each_block}
 
@@ -47,7 +49,7 @@ pub none_declared : (l : List Declaration) → count_processes (map declaration_
 none_declared [] = refl
 none_declared (d ∷ l) = none_declared l
 
-module _ (ds : List Declaration) (all : List Node) (widths marks firsts : List ℕ) where
+module _ (ds : List Declaration) (all : List Node) (widths : List ℕ) (marks : List Bool) (firsts : List (Option First)) where
   abbrev by_earlier : List Node → Node → Bool
   by_earlier = breaks ds all Rule.Count
 
@@ -76,6 +78,6 @@ module _ (ds : List Declaration) (all : List Node) (widths marks firsts : List �
       let own-counted = count_append before (own ∷ []) in
       let inner-counted = count_append (before ++ (own ∷ [])) inner in
       let none = none_inside p (at + 3) b in
-      ap₂ (λ (k : ℕ) (f : Found). choose (leb most_processes k) (λ _. Found.At at) (λ _. f)) counted
+      ap₂ (λ (k : ℕ) (f : Found). choose (leb most_processes k) (λ _. Some at) (λ _. f)) counted
       (past_block p (at + 3) b (process_nodes (p + 1) next l) (before ++ (own ∷ [])) (after ++ (own ∷ []))
       (processes_numbered (p + 1) next l ((before ++ (own ∷ [])) ++ inner) ((after ++ (own ∷ [])) ++ inner) (omega arith)))

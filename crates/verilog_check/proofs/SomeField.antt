@@ -1,17 +1,17 @@
 -- Does some field of a list pass a test? In lists joined, and of each member; and for a test of assignments to one variable that are all alike, by the first of them.
 -- By induction on the list.
+use Rattle.std.specs.Prelude.{Option, None, is_none}
 use mathlib.Core.Path.{◌≡◌, refl, sym, ap, ◌∙◌}
 use mathlib.Core.Bool.{Bool, true, false, cond, ◌||◌, or_assoc}
 use mathlib.Core.List.{List, [], ◌∷◌, ◌++◌, Memᴰ}
 use Prim.Native.Nat.{ℕ}
-use lib.Dec.{eqb}
-use borrow.Author.Tests.{eqb-true, eqb-false}
 use Rattle.tagged.specs.Fields.{Placed, unplaced}
 use Rattle.tagged.proofs.TestLaws.{neither}
 use Rattle.tagged.proofs.FoundLaws.{unplaced_append}
 use Rattle.verilog.specs.Nodes.{Node}
 use Rattle.verilog.specs.Rules.{some_node}
-use Rattle.verilog_check.proofs.Firsts.{code_of, first_in}
+use Rattle.verilog_check.specs.declared.assignments.First.{First}
+use Rattle.verilog_check.proofs.Firsts.{as_first, first_in, none_true, none_false}
 use Rattle.verilog_check.proofs.EachField.{Each, no_field, one_more_lem}
 
 module _ (test : Node → Bool) where
@@ -38,24 +38,24 @@ either_way t true h = refl
 either_way true false h = h
 either_way false false h = h
 
--- where the code of each assignment to variable v gives the test the same result, some assignment passes if there is one and the result is true
-module _ (v : ℕ) (code : ℕ → Bool) (zero-fails : code 0 ≡ false) (result : Bool) where
-  some_alike : (l : List Node) → ((n : Node) → Memᴰ n l → (code_of v n ≡ 0 → ⊥) → code (code_of v n) ≡ result) →
-      some_node (λ n. code (code_of v n)) l ≡ cond (eqb (first_in v l) 0) false result
+-- where each assignment to variable v gives the test the same result, some assignment passes if there is one and the result is true
+module _ (v : ℕ) (asks : Option First → Bool) (none-fails : asks None ≡ false) (result : Bool) where
+  some_alike : (l : List Node) → ((n : Node) → Memᴰ n l → (as_first v n ≡ None → ⊥) → asks (as_first v n) ≡ result) →
+      some_node (λ n. asks (as_first v n)) l ≡ cond (is_none (first_in v l)) false result
   unfolding first_in
   some_alike [] alike = refl
-  some_alike (n ∷ l) alike = go (eqb (code_of v n) 0) refl (some_alike l (λ k m. alike k (Memᴰ.tail m)))
+  some_alike (n ∷ l) alike = go (is_none (as_first v n)) refl (some_alike l (λ k m. alike k (Memᴰ.tail m)))
     where
-      go : (t : Bool) → eqb (code_of v n) 0 ≡ t → some_node (λ n. code (code_of v n)) l ≡ cond (eqb (first_in v l) 0) false result →
-          (code (code_of v n) || some_node (λ n. code (code_of v n)) l) ≡ cond (eqb (cond t (first_in v l) (code_of v n)) 0) false result
-      go true none h = rw (eqb-true (code_of v n) 0 none, zero-fails) h
-      go false some h = rw (some, alike n (Memᴰ.head refl) (eqb-false (code_of v n) 0 some)) (either_way (eqb (first_in v l) 0) result h)
+      go : (t : Bool) → is_none (as_first v n) ≡ t → some_node (λ n. asks (as_first v n)) l ≡ cond (is_none (first_in v l)) false result →
+          (asks (as_first v n) || some_node (λ n. asks (as_first v n)) l) ≡ cond (is_none (cond t (first_in v l) (as_first v n))) false result
+      go true none h = rw (none_true (as_first v n) none, none-fails) h
+      go false some h = rw (some, alike n (Memᴰ.head refl) (none_false (as_first v n) some)) (either_way (is_none (first_in v l)) result h)
 
 -- so where that result is the first one's, the first decides
-pub first_decides : (v : ℕ) (code : ℕ → Bool) → code 0 ≡ false → (l : List Node) →
-    ((n : Node) → Memᴰ n l → (code_of v n ≡ 0 → ⊥) → code (code_of v n) ≡ code (first_in v l)) → some_node (λ n. code (code_of v n)) l ≡ code (first_in v l)
-first_decides v code zero-fails l alike = some_alike v code zero-fails (code (first_in v l)) l alike ∙ go (eqb (first_in v l) 0) refl
+pub first_decides : (v : ℕ) (asks : Option First → Bool) → asks None ≡ false → (l : List Node) →
+    ((n : Node) → Memᴰ n l → (as_first v n ≡ None → ⊥) → asks (as_first v n) ≡ asks (first_in v l)) → some_node (λ n. asks (as_first v n)) l ≡ asks (first_in v l)
+first_decides v asks none-fails l alike = some_alike v asks none-fails (asks (first_in v l)) l alike ∙ go (is_none (first_in v l)) refl
   where
-    go : (t : Bool) → eqb (first_in v l) 0 ≡ t → cond t false (code (first_in v l)) ≡ code (first_in v l)
-    go true none = rw (eqb-true (first_in v l) 0 none, zero-fails)
+    go : (t : Bool) → is_none (first_in v l) ≡ t → cond t false (asks (first_in v l)) ≡ asks (first_in v l)
+    go true none = rw (none_true (first_in v l) none, none-fails)
     go false some = refl

@@ -1,5 +1,6 @@
 -- The survey of the bytes of processes puts their assignments into the table, so that it tells the first assignment to each variable.
 -- By induction on the tree, over its bytes with whatever follows them: a field that holds statements is stepped into, every other is passed over.
+use Rattle.std.specs.Prelude.{Option, None}
 use mathlib.Core.Path.{◌≡◌, refl, sym, ap, ◌∙◌, subst}
 use mathlib.Core.List.{List, [], ◌∷◌, ◌++◌, append_assoc}
 use Prim.Native.Nat.{ℕ, ◌+◌, ◌≤◌, ◌<◌}
@@ -15,16 +16,16 @@ use Rattle.tagged.specs.declared.sorts.Sort.{Sort}
 use Rattle.tagged.proofs.SortLaws.{sort_back}
 use Rattle.tagged.proofs.FieldLaws.{Whole}
 use Rattle.tagged.proofs.ListBytes.{field_whole, field_after, field_length}
-use Rattle.verilog.specs.Tree.{Expression, constant, variable, fixed_bit, chosen_bit, one, two}
-use Rattle.verilog.specs.Tree.{Statement, assign, assign_bit, if_else, case, Block, end, ◌then◌, Items, default, item}
+use Rattle.verilog.specs.Tree.{Expression, constant, variable, fixed_bit, chosen_bit, one, two, Statement, assign, assign_bit, if_else, case, Block, end, ◌then◌, Items, default, item}
 use Rattle.verilog.specs.Form.{expression_field, expression_bytes, statement_bytes, block_payload, items_bytes, process_bytes}
 use Rattle.verilog.specs.Nodes.{What, Node, node_at, past, expression_nodes, statement_nodes, block_nodes, items_nodes, process_nodes}
 use Rattle.verilog.specs.Fits.{longest_field}
-use Rattle.verilog_check.specs.Tables.{first_code, with_first}
+use Rattle.verilog_check.specs.declared.assignments.First.{First}
+use Rattle.verilog_check.specs.Tables.{first_by, with_first}
 use Rattle.verilog_check.specs.Survey.{step_over, begun_after, noted, survey_from}
 use Rattle.verilog_check.proofs.Firsts.{first_in}
 use Rattle.verilog_check.proofs.FirstTables.{with_what, with_nodes, nodes_append, table_told}
-use Rattle.verilog_check.proofs.SurveySteps.{survey_field}
+use Rattle.verilog_check.proofs.SurveySteps.{survey_field, noted_within}
 
 -- bytes that fit into one field, and their parts
 abbrev Short : List ℕ → Type 0
@@ -40,7 +41,7 @@ short_second : (a b : List ℕ) → Short (a ++ b) → Short b
 short_second a b h = omega (arith, h, length-append a b)
 
 -- a field that is written, in front of whatever follows: it is passed over, or stepped into
-module _ (s : Sort) (payload : List ℕ) (short : Short (field_bytes (tag_of s) payload)) (begun : ℕ) (after firsts : List ℕ) where
+module _ (s : Sort) (payload : List ℕ) (short : Short (field_bytes (tag_of s) payload)) (begun : ℕ) (after : List ℕ) (firsts : List (Option First)) where
   written : Whole (field_bytes (tag_of s) payload ++ after) s (length payload)
   written =
       let h : length payload < 65536 = omega (arith, short, field_length (tag_of s) payload) in
@@ -58,7 +59,7 @@ module _ (s : Sort) (payload : List ℕ) (short : Short (field_bytes (tag_of s) 
 
 -- the survey of these bytes, in process number p, puts the assignments of these fields into the table
 record Surveyed (p : ℕ) (bytes : List ℕ) (nodes : List (Placed Node)) : Type 0 where
-  told : (after firsts : List ℕ) → survey_from 0 (p + 1) (bytes ++ after) firsts ≡ survey_from 0 (p + 1) after (with_nodes firsts nodes)
+  told : (after : List ℕ) (firsts : List (Option First)) → survey_from 0 (p + 1) (bytes ++ after) firsts ≡ survey_from 0 (p + 1) after (with_nodes firsts nodes)
 
 module _ {p : ℕ} where
   -- nothing, or one after the other
@@ -76,15 +77,15 @@ module _ {p : ℕ} where
       }
 
   -- a field that is no assignment adds nothing
-  silent : {at : ℕ} {w : What} {bytes : List ℕ} {nodes : List (Placed Node)} → ((firsts : List ℕ) → with_what firsts p w ≡ firsts) →
+  silent : {at : ℕ} {w : What} {bytes : List ℕ} {nodes : List (Placed Node)} → ((firsts : List (Option First)) → with_what firsts p w ≡ firsts) →
       Surveyed p bytes nodes → Surveyed p bytes (node_at p at w ∷ nodes)
   unfolding with_nodes
   silent {nodes = nodes} none x =
-      record { told = λ after firsts. x.told after firsts ∙ ap (λ (t : List ℕ). survey_from 0 (p + 1) after (with_nodes t nodes)) (sym (none firsts)) }
+      record { told = λ after firsts. x.told after firsts ∙ ap (λ (t : List (Option First)). survey_from 0 (p + 1) after (with_nodes t nodes)) (sym (none firsts)) }
 
   -- a field that is stepped into adds what its payload adds
   entered : {payload : List ℕ} {nodes : List (Placed Node)} (s : Sort) → Short (field_bytes (tag_of s) payload) → step_over s (length payload) ≡ 3 →
-      begun_after s (p + 1) ≡ p + 1 → ((v : ℕ) (firsts : List ℕ) → noted s v (p + 1) firsts ≡ firsts) → Surveyed p payload nodes →
+      begun_after s (p + 1) ≡ p + 1 → ((v : ℕ) (firsts : List (Option First)) → noted s v (p + 1) firsts ≡ firsts) → Surveyed p payload nodes →
       Surveyed p (field_bytes (tag_of s) payload) nodes
   entered {payload} s h over same none x =
       record {
@@ -100,7 +101,7 @@ module _ {p : ℕ} where
   block_entered b h x = entered Sort.Block h refl refl (λ v firsts. refl) (x (short_payload _ (block_payload b) h))
 
 -- an expression holds no assignment
-nodes_expression : (p at : ℕ) (e : Expression) (firsts : List ℕ) → with_nodes firsts (expression_nodes p at e) ≡ firsts
+nodes_expression : (p at : ℕ) (e : Expression) (firsts : List (Option First)) → with_nodes firsts (expression_nodes p at e) ≡ firsts
 unfolding expression_nodes with_nodes
 nodes_expression p at (constant w v) firsts = refl
 nodes_expression p at (variable v) firsts = refl
@@ -110,7 +111,7 @@ nodes_expression p at (one op a) firsts = nodes_expression p (at + 3) a firsts
 nodes_expression p at (two op a b) firsts =
     let second : ℕ = at + 3 + length (expression_bytes a) in
     nodes_append firsts (expression_nodes p (at + 3) a) (expression_nodes p second b)
-    ∙ ap (λ (t : List ℕ). with_nodes t (expression_nodes p second b)) (nodes_expression p (at + 3) a firsts)
+    ∙ ap (λ (t : List (Option First)). with_nodes t (expression_nodes p second b)) (nodes_expression p (at + 3) a firsts)
     ∙ nodes_expression p second b firsts
 
 -- and is passed over
@@ -118,11 +119,11 @@ survey_expression : (e : Expression) (p at : ℕ) → Short (expression_bytes e)
 unfolding expression_bytes step_over begun_after noted
 survey_expression e p at h = record { told = λ after firsts. go e h after firsts ∙ ap (survey_from 0 (p + 1) after) (sym (nodes_expression p at e firsts)) }
   where
-    by : (s : ExpressionSort) (payload : List ℕ) → Short (expression_field s payload) → (after firsts : List ℕ) →
+    by : (s : ExpressionSort) (payload : List ℕ) → Short (expression_field s payload) → (after : List ℕ) (firsts : List (Option First)) →
         survey_from 0 (p + 1) (expression_field s payload ++ after) firsts ≡ survey_from 0 (p + 1) after firsts
     by s payload h after firsts = passed_over (Sort.Expression s) payload h (p + 1) after firsts refl refl
 
-    go : (e : Expression) → Short (expression_bytes e) → (after firsts : List ℕ) →
+    go : (e : Expression) → Short (expression_bytes e) → (after : List ℕ) (firsts : List (Option First)) →
         survey_from 0 (p + 1) (expression_bytes e ++ after) firsts ≡ survey_from 0 (p + 1) after firsts
     go (constant w v) h = by ExpressionSort.Constant (w ∷ four_bytes v) h
     go (variable v) h = by ExpressionSort.Variable (v ∷ []) h
@@ -140,7 +141,8 @@ survey_assign kind v e p at h =
       told =
           λ after firsts.
           passed_over (Sort.Statement (StatementSort.Assign kind)) (v ∷ expression_bytes e) h (p + 1) after firsts refl refl
-          ∙ ap (survey_from 0 (p + 1) after) (sym (nodes_expression p (at + 4) e (with_first firsts v (first_code (p + 1) kind))));
+          ∙ ap (survey_from 0 (p + 1) after) (noted_within firsts v p kind)
+          ∙ ap (survey_from 0 (p + 1) after) (sym (nodes_expression p (at + 4) e (with_first firsts v (first_by (p + 1) kind))));
     }
 
 survey_assign_bit : (kind : Kind) (v k : ℕ) (e : Expression) (p at : ℕ) → Short (statement_bytes (assign_bit kind v k e)) →
@@ -151,7 +153,8 @@ survey_assign_bit kind v k e p at h =
       told =
           λ after firsts.
           passed_over (Sort.Statement (StatementSort.AssignBit kind)) (v ∷ k ∷ expression_bytes e) h (p + 1) after firsts refl refl
-          ∙ ap (survey_from 0 (p + 1) after) (sym (nodes_expression p (at + 5) e (with_first firsts v (first_code (p + 1) kind))));
+          ∙ ap (survey_from 0 (p + 1) after) (noted_within firsts v p kind)
+          ∙ ap (survey_from 0 (p + 1) after) (sym (nodes_expression p (at + 5) e (with_first firsts v (first_by (p + 1) kind))));
     }
 
 -- statements, blocks and items, by their parts
@@ -203,7 +206,7 @@ mutual
       (survey_items items e p (past (at + 11) (block_payload b)) (short_second this (items_bytes items) h))
 
 -- processes, from number p on, which is how many have begun
-survey_processes : (ps : List Block) (p at : ℕ) → Short (all_bytes_of process_bytes ps) → (firsts : List ℕ) →
+survey_processes : (ps : List Block) (p at : ℕ) → Short (all_bytes_of process_bytes ps) → (firsts : List (Option First)) →
     survey_from 0 p (all_bytes_of process_bytes ps) firsts ≡ with_nodes firsts (process_nodes p at ps)
 unfolding survey_from all_bytes_of process_bytes process_nodes with_nodes step_over begun_after noted
 survey_processes [] p at h firsts = refl
@@ -217,7 +220,7 @@ survey_processes (b ∷ ps) p at h firsts =
     ∙ sym (nodes_append firsts (block_nodes p (at + 3) b) (process_nodes (p + 1) next ps))
 
 -- the survey of processes, from a table without assignments, tells the first assignment to each variable that the table has room for
-pub survey_firsts : (at : ℕ) (ps : List Block) → length (all_bytes_of process_bytes ps) ≤ longest_field → (firsts : List ℕ) → ((v : ℕ) → get_or firsts v 0 ≡ 0) →
-    (v : ℕ) → v < length firsts → get_or (survey_from 0 0 (all_bytes_of process_bytes ps) firsts) v 0 ≡ first_in v (unplaced (process_nodes 0 at ps))
+pub survey_firsts : (at : ℕ) (ps : List Block) → length (all_bytes_of process_bytes ps) ≤ longest_field → (firsts : List (Option First)) → ((v : ℕ) → get_or firsts v None ≡ None) →
+    (v : ℕ) → v < length firsts → get_or (survey_from 0 0 (all_bytes_of process_bytes ps) firsts) v None ≡ first_in v (unplaced (process_nodes 0 at ps))
 survey_firsts at ps h firsts none v within =
-    ap (λ (t : List ℕ). get_or t v 0) (survey_processes ps 0 at h firsts) ∙ table_told firsts v (none v) within (process_nodes 0 at ps)
+    ap (λ (t : List (Option First)). get_or t v None) (survey_processes ps 0 at h firsts) ∙ table_told firsts v (none v) within (process_nodes 0 at ps)

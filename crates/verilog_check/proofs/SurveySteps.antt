@@ -1,110 +1,46 @@
 -- Laws of the survey, in the form in which code asks them: each arm of a match, and one turn of the loop over the bytes.
+use Rattle.std.specs.Prelude.{Ok, Err, Option, Some, None, is_none, eqb}
 use mathlib.Core.Path.{◌≡◌, refl, sym, ap, ◌∙◌}
-use mathlib.Core.Bool.{Bool, true, false, cond}
+use mathlib.Core.Bool.{Bool, true, false, cond, ◌&&◌}
 use mathlib.Core.List.{List, [], ◌∷◌}
 use Prim.Native.Nat.{ℕ, zero, suc, ◌+◌, ◌-◌, ◌≤◌}
 use native.Mathlib.Omega.{arith}
-use lib.Dec.{eqb}
 use lib.ListN.{length, get_or, take, drop, set, length-drop, length-set}
 use lib.Seq.{drop-drop, get_or-drop}
-use borrow.Author.Tests.{eq-eqb, ne_eqb}
-use Rattle.tagged.specs.Fields.{open_of}
+use borrow.Author.Tests.{ne_eqb}
+use Rattle.tagged.specs.declared.answers.Fault.{Fault}
+use Rattle.tagged.specs.Fields.{open_of, Opened}
 use Rattle.tagged.specs.declared.sorts.Kind.{Kind}
 use Rattle.tagged.specs.declared.sorts.StatementSort.{StatementSort}
 use Rattle.tagged.specs.declared.sorts.Sort.{Sort}
-use Rattle.tagged.specs.declared.fields.Opened.{Opened}
 use Rattle.tagged.proofs.ByteLaws.{rest}
 use Rattle.tagged.proofs.FieldLaws.{Whole, open_whole, whole_open}
-use Rattle.verilog_check.specs.Tables.{kind_bit, with_first}
+use Rattle.verilog.specs.Rules.{is_blocking}
+use Rattle.verilog_check.specs.declared.assignments.First.{First}
+use Rattle.verilog_check.specs.Tables.{first_by, with_first, note_first}
 use Rattle.verilog_check.specs.Survey.{step_over, begun_after, noted, survey_from}
 
--- how far the next field stands
-pub over_assignment : (s : StatementSort) → (s ≡ StatementSort.If → ⊥) → (s ≡ StatementSort.Case → ⊥) → (n : ℕ) → step_over (Sort.Statement s) n ≡ n + 3
-unfolding step_over
-over_assignment (StatementSort.Assign kind) no_if no_case n = refl
-over_assignment (StatementSort.AssignBit kind) no_if no_case n = refl
-over_assignment StatementSort.If no_if no_case n = absurd (no_if refl)
-over_assignment StatementSort.Case no_if no_case n = absurd (no_case refl)
+-- the table keeps its length
+pub first_length : (firsts : List (Option First)) (v : ℕ) (first : First) → length (with_first firsts v first) ≡ length firsts
+unfolding with_first
+first_length firsts v first = go (is_none (get_or firsts v None))
+  where
+    go : (t : Bool) → length (cond t (set firsts v (Some first)) firsts) ≡ length firsts
+    go true = length-set firsts v (Some first)
+    go false = refl
 
-pub over_other : (s : Sort) → ((t : StatementSort) → s ≡ Sort.Statement t → ⊥) → (s ≡ Sort.Process → ⊥) → (s ≡ Sort.Item → ⊥) → (s ≡ Sort.Block → ⊥) → (n : ℕ) → step_over s n ≡ n + 3
-unfolding step_over
-over_other Sort.Module no_statement no_process no_item no_block n = refl
-over_other (Sort.Declaration d) no_statement no_process no_item no_block n = refl
-over_other Sort.Process no_statement no_process no_item no_block n = absurd (no_process refl)
-over_other (Sort.Statement s) no_statement no_process no_item no_block n = absurd (no_statement s refl)
-over_other Sort.Item no_statement no_process no_item no_block n = absurd (no_item refl)
-over_other Sort.Block no_statement no_process no_item no_block n = absurd (no_block refl)
-over_other (Sort.Expression e) no_statement no_process no_item no_block n = refl
-over_other (Sort.Cell c) no_statement no_process no_item no_block n = refl
-over_other Sort.Drive no_statement no_process no_item no_block n = refl
-over_other Sort.Netlist no_statement no_process no_item no_block n = refl
-over_other Sort.Unknown no_statement no_process no_item no_block n = refl
+noted_first_length : (firsts : List (Option First)) (v begun : ℕ) (kind : Kind) → length (note_first firsts v begun kind) ≡ length firsts
+unfolding note_first
+noted_first_length firsts v begun kind = go (eqb begun 0 && is_blocking kind)
+  where
+    go : (t : Bool) → length (cond t firsts (with_first firsts v (first_by begun kind))) ≡ length firsts
+    go true = refl
+    go false = first_length firsts v _
 
--- how many processes have begun
-pub begun_other : (s : Sort) → (s ≡ Sort.Process → ⊥) → (begun : ℕ) → begun_after s begun ≡ begun
-unfolding begun_after
-begun_other Sort.Module k begun = refl
-begun_other (Sort.Declaration d) k begun = refl
-begun_other Sort.Process k begun = absurd (k refl)
-begun_other (Sort.Statement s) k begun = refl
-begun_other Sort.Item k begun = refl
-begun_other Sort.Block k begun = refl
-begun_other (Sort.Expression e) k begun = refl
-begun_other (Sort.Cell c) k begun = refl
-begun_other Sort.Drive k begun = refl
-begun_other Sort.Netlist k begun = refl
-begun_other Sort.Unknown k begun = refl
-
--- the bit of a kind is a bit
-pub kind_within : (kind : Kind) → kind_bit kind ≤ 1
-kind_within Kind.Blocking = omega arith
-kind_within Kind.NonBlocking = omega arith
-
--- the table after a field
-module _ (v begun : ℕ) (firsts : List ℕ) where
-  pub noted_choice : (s : StatementSort) → ((kind : Kind) → s ≡ StatementSort.Assign kind → ⊥) → ((kind : Kind) → s ≡ StatementSort.AssignBit kind → ⊥) → noted (Sort.Statement s) v begun firsts ≡ firsts
-  unfolding noted
-  noted_choice (StatementSort.Assign kind) no_assign no_assign_bit = absurd (no_assign kind refl)
-  noted_choice (StatementSort.AssignBit kind) no_assign no_assign_bit = absurd (no_assign_bit kind refl)
-  noted_choice StatementSort.If no_assign no_assign_bit = refl
-  noted_choice StatementSort.Case no_assign no_assign_bit = refl
-
-  pub noted_other : (s : Sort) → ((t : StatementSort) → s ≡ Sort.Statement t → ⊥) → noted s v begun firsts ≡ firsts
-  unfolding noted
-  noted_other Sort.Module k = refl
-  noted_other (Sort.Declaration d) k = refl
-  noted_other Sort.Process k = refl
-  noted_other (Sort.Statement s) k = absurd (k s refl)
-  noted_other Sort.Item k = refl
-  noted_other Sort.Block k = refl
-  noted_other (Sort.Expression e) k = refl
-  noted_other (Sort.Cell c) k = refl
-  noted_other Sort.Drive k = refl
-  noted_other Sort.Netlist k = refl
-  noted_other Sort.Unknown k = refl
-
--- an assignment in the table, where there was none, or one
-module _ (firsts : List ℕ) (v code : ℕ) where
-  pub first_new : get_or firsts v 0 ≡ 0 → with_first firsts v code ≡ set firsts v code
-  unfolding with_first
-  first_new e = rw (eq-eqb _ _ e)
-
-  pub first_kept : (get_or firsts v 0 ≡ 0 → ⊥) → with_first firsts v code ≡ firsts
-  unfolding with_first
-  first_kept e = rw (ne_eqb _ _ e)
-
-  pub first_length : length (with_first firsts v code) ≡ length firsts
-  unfolding with_first
-  first_length = go (eqb (get_or firsts v 0) 0)
-    where
-      go : (t : Bool) → length (cond t (set firsts v code) firsts) ≡ length firsts
-      go true = length-set firsts v code
-      go false = refl
-
-noted-length : (s : Sort) (v begun : ℕ) (firsts : List ℕ) → length (noted s v begun firsts) ≡ length firsts
+noted-length : (s : Sort) (v begun : ℕ) (firsts : List (Option First)) → length (noted s v begun firsts) ≡ length firsts
 unfolding noted
-noted-length (Sort.Statement (StatementSort.Assign kind)) v begun firsts = first_length firsts v _
-noted-length (Sort.Statement (StatementSort.AssignBit kind)) v begun firsts = first_length firsts v _
+noted-length (Sort.Statement (StatementSort.Assign kind)) v begun firsts = noted_first_length firsts v begun kind
+noted-length (Sort.Statement (StatementSort.AssignBit kind)) v begun firsts = noted_first_length firsts v begun kind
 noted-length (Sort.Statement StatementSort.If) v begun firsts = refl
 noted-length (Sort.Statement StatementSort.Case) v begun firsts = refl
 noted-length Sort.Module v begun firsts = refl
@@ -150,22 +86,27 @@ begun_within Sort.Drive begun = omega arith
 begun_within Sort.Netlist begun = omega arith
 begun_within Sort.Unknown begun = omega arith
 
+-- within a process every assignment is noted
+pub noted_within : (firsts : List (Option First)) (v p : ℕ) (kind : Kind) → note_first firsts v (p + 1) kind ≡ with_first firsts v (first_by (p + 1) kind)
+unfolding note_first
+noted_within firsts v p kind = rw (ne_eqb (p + 1) 0 (λ h. omega (arith, h))) refl
+
 -- the table after a list of bytes, by what stands at its front
 
 -- passing over some bytes is dropping them
-survey_skip : (n begun : ℕ) (l firsts : List ℕ) → survey_from n begun l firsts ≡ survey_from 0 begun (drop n l) firsts
+survey_skip : (n begun : ℕ) (l : List ℕ) (firsts : List (Option First)) → survey_from n begun l firsts ≡ survey_from 0 begun (drop n l) firsts
 unfolding survey_from
 survey_skip zero begun [] firsts = refl
 survey_skip (suc n) begun [] firsts = refl
 survey_skip zero begun (x ∷ l) firsts = refl
 survey_skip (suc n) begun (x ∷ l) firsts = survey_skip n begun l firsts
 
-survey_end : (begun : ℕ) (l firsts : List ℕ) (x : ℕ) → open_of 0 0 l ≡ Opened.Refused x → survey_from 0 begun l firsts ≡ firsts
+survey_end : (begun : ℕ) (l : List ℕ) (firsts : List (Option First)) (x : Fault) → open_of 0 0 l ≡ Err x → survey_from 0 begun l firsts ≡ firsts
 unfolding survey_from
 survey_end begun [] firsts x e = refl
 survey_end begun (y ∷ l) firsts x e = rw e
 
-pub survey_field : (begun : ℕ) (l firsts : List ℕ) {s : Sort} {n : ℕ} → Whole l s n →
+pub survey_field : (begun : ℕ) (l : List ℕ) (firsts : List (Option First)) {s : Sort} {n : ℕ} → Whole l s n →
     survey_from 0 begun l firsts ≡ survey_from 0 (begun_after s begun) (drop (step_over s n) l) (noted s (get_or l 3 0) begun firsts)
 unfolding survey_from
 survey_field begun [] firsts w = absurd (omega (arith, w.within))
@@ -179,11 +120,11 @@ module _ (list : List ℕ) (at : ℕ) (opened : Opened) (found : opened ≡ open
   here : (x : Opened) → opened ≡ x → open_of 0 0 (drop at list) ≡ x
   here x e = sym (rw rest at found) ∙ e
 
-  pub turn_ended : (begun : ℕ) (firsts : List ℕ) {whole : List ℕ} → survey_from 0 begun (drop at list) firsts ≡ whole →
-      (x : ℕ) → opened ≡ Opened.Refused x → firsts ≡ whole
+  pub turn_ended : (begun : ℕ) (firsts : List (Option First)) {whole : List (Option First)} → survey_from 0 begun (drop at list) firsts ≡ whole →
+      (x : Fault) → opened ≡ Err x → firsts ≡ whole
   turn_ended begun firsts going x e = sym (survey_end begun (drop at list) firsts x (here _ e)) ∙ going
 
-  module _ (s : Sort) (n : ℕ) (is : opened ≡ Opened.Field s n) where
+  module _ (s : Sort) (n : ℕ) (is : opened ≡ Ok (s, n)) where
     stands : Whole (drop at list) s n
     stands = open_whole 0 0 (drop at list) (here _ is)
 
@@ -196,12 +137,12 @@ module _ (list : List ℕ) (at : ℕ) (opened : Opened) (found : opened ≡ open
     pub turn_begun : (begun begun' step : ℕ) → begun ≤ at → begun' ≡ begun_after s begun → step ≡ step_over s n → begun' ≤ at + step
     turn_begun begun begun' step h e f = omega (arith, h, e, begun_within s begun, f, (step_within s n).0)
 
-    pub turn_noted : (begun : ℕ) (firsts : List ℕ) {whole : List ℕ} → survey_from 0 begun (drop at list) firsts ≡ whole →
-        (v : ℕ) → v ≡ get_or list (at + 3) 0 → (firsts' : List ℕ) → firsts' ≡ noted s v begun firsts → (begun' : ℕ) → begun' ≡ begun_after s begun →
+    pub turn_noted : (begun : ℕ) (firsts : List (Option First)) {whole : List (Option First)} → survey_from 0 begun (drop at list) firsts ≡ whole →
+        (v : ℕ) → v ≡ get_or list (at + 3) 0 → (firsts' : List (Option First)) → firsts' ≡ noted s v begun firsts → (begun' : ℕ) → begun' ≡ begun_after s begun →
         (step : ℕ) → step ≡ step_over s n → survey_from 0 begun' (drop (at + step) list) firsts' ≡ whole
     turn_noted begun firsts going v ve firsts' fe begun' be step se =
         rw (fe, ve, be, se, ← drop-drop (step_over s n) at list, ← get_or-drop at list 3 0) (sym (survey_field begun (drop at list) firsts stands) ∙ going)
 
 -- the table keeps its length
-pub turn_length : (s : Sort) (v begun : ℕ) (firsts firsts' : List ℕ) → firsts' ≡ noted s v begun firsts → length firsts' ≡ length firsts
+pub turn_length : (s : Sort) (v begun : ℕ) (firsts firsts' : List (Option First)) → firsts' ≡ noted s v begun firsts → length firsts' ≡ length firsts
 turn_length s v begun firsts firsts' e = ap length e ∙ noted-length s v begun firsts

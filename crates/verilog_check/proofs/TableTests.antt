@@ -1,18 +1,20 @@
 -- Rules 6 to 8 ask of the declarations for what the tables have: how many there are, their widths, and which are registers. By cases on the field.
+use Rattle.std.specs.Prelude.{Option}
 use mathlib.Core.Path.{◌≡◌, refl, sym, ap, ap₂, fun_ext, ◌∙◌}
 use mathlib.Core.Bool.{Bool, false, not}
 use mathlib.Core.List.{List, [], ◌∷◌, map}
-use Prim.Native.Nat.{ℕ, zero, suc}
+use Prim.Native.Nat.{ℕ}
 use lib.Dec.{leb, eqb}
 use lib.ListN.{length, get_or, length-map}
 use Rattle.words.specs.Widths.{index_within}
 use Rattle.words.specs.Operators.{one_width, two_width}
-use Rattle.tagged.specs.Declarations.{Declaration, input, register, width_of, variable_width, register_at, register_mark, sort_of_declaration, declaration_breaks}
+use Rattle.tagged.specs.Declarations.{Declaration, width_of, variable_width, is_register, declaration_breaks}
 use Rattle.tagged.specs.declared.sorts.Kind.{Kind}
 use Rattle.tagged.specs.declared.answers.Rule.{Rule}
 use Rattle.verilog.specs.Tree.{Expression, constant, variable, fixed_bit, chosen_bit, one, two, Statement, assign, assign_bit, if_else, case}
 use Rattle.verilog.specs.Nodes.{Node}
 use Rattle.verilog.specs.Rules.{expression_width, by_field, reads_by, assigns_by, operands_differ, statement_differs, read_outside, write_outside, breaks}
+use Rattle.verilog_check.specs.declared.assignments.First.{First}
 use Rattle.verilog_check.specs.Tables.{variables_of}
 use Rattle.verilog_check.specs.Judged.{judged}
 
@@ -29,13 +31,6 @@ width_by_widths cs ds same (two op a b) = ap (two_width op) (width_by_widths cs 
 variables_widths : (l : List ℕ) → map width_of (variables_of l) ≡ l
 variables_widths [] = refl
 variables_widths (w ∷ l) = ap (λ (k : List ℕ). w ∷ k) (variables_widths l)
-
--- what is no register is marked 0
-unmarked : (ds : List Declaration) (v : ℕ) → not (register_at ds v) ≡ eqb (get_or (map (λ d. register_mark (sort_of_declaration d)) ds) v 0) 0
-unmarked [] v = refl
-unmarked (input w name ∷ ds) zero = refl
-unmarked (register w initial name ∷ ds) zero = refl
-unmarked (d ∷ ds) (suc v) = unmarked ds v
 
 -- 7 and 8 ask of the declarations for their widths alone
 module _ (ds cs : List Declaration) (same : map width_of ds ≡ map width_of cs) where
@@ -85,8 +80,8 @@ no_declaration of_reference earlier d = refl
 no_declaration of_widths earlier d = refl
 no_declaration of_bit_number earlier d = refl
 
-module _ (ds : List Declaration) (widths marks firsts : List ℕ) (sized : widths ≡ map width_of ds)
-    (marked : marks ≡ map (λ d. register_mark (sort_of_declaration d)) ds) where
+module _ (ds : List Declaration) (widths : List ℕ) (marks : List Bool) (firsts : List (Option First)) (sized : widths ≡ map width_of ds)
+    (marked : marks ≡ map is_register ds) where
   table_same : map width_of ds ≡ map width_of (variables_of widths)
   table_same = sym sized ∙ sym (variables_widths widths)
 
@@ -95,7 +90,7 @@ module _ (ds : List Declaration) (widths marks firsts : List ℕ) (sized : width
   test_same of_reference all earlier n =
       ap₂ (λ (reads : ℕ → Bool) (writes : Kind → ℕ → Bool). by_field (λ d. false) false (reads_by reads) (assigns_by writes) (λ e w. false) n.what)
       (fun_ext (λ v. ap (λ (k : ℕ). leb k v) (sym (ap length sized ∙ length-map ds width_of))))
-      (fun_ext (λ kind. fun_ext (λ v. unmarked ds v ∙ ap (λ (l : List ℕ). eqb (get_or l v 0) 0) (sym marked))))
+      (fun_ext (λ kind. fun_ext (λ v. ap (λ (l : List Bool). not (get_or l v false)) (sym marked))))
   test_same of_widths all earlier n = λ i.
       by_field (λ d. false) false (λ e. operands_same ds (variables_of widths) table_same e i) (λ s. statement_same ds (variables_of widths) table_same s i)
       (λ e w. not (eqb w (wide ds (variables_of widths) table_same e i))) n.what

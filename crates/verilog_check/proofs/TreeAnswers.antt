@@ -1,5 +1,6 @@
 -- The answer that the code gives for a file to which refusals 1 and 2 do not apply is the tree's: its parts are the declarations and the processes,
 -- the walk over the bytes comes to the tree's fields, and by the tables each rule has its own first place, as long as no lower one has any.
+use Rattle.std.specs.Prelude.{Option, Ok, None}
 use mathlib.Core.Path.{◌≡◌, refl, sym, ap, ap₂, ◌∙◌}
 use mathlib.Core.Bool.{Bool, false}
 use mathlib.Core.List.{List, [], ◌∷◌, map}
@@ -12,20 +13,17 @@ use Rattle.tagged.specs.Bytes.{AllBytes}
 use Rattle.tagged.specs.Fields.{Placed, all_bytes_of, fields_at, passed_bytes, unplaced, placed_by}
 use Rattle.tagged.specs.Files.{file_answer}
 use Rattle.tagged.specs.Refusals.{first_broken, or_else, found_if, first_refusal, lower_refusal}
-use Rattle.tagged.specs.Answers.{number_of}
-use Rattle.tagged.specs.Declarations.{Declaration, width_of, declaration_bytes, declaration_breaks, declaration_broken, declaration_rules, declarations_answer, declarations_step, declarations_at, declarations_in, variable_table}
+use Rattle.tagged.specs.Answers.{acceptance, number_of, Found, Answer}
+use Rattle.tagged.specs.Declarations.{Declaration, width_of, is_register, declaration_bytes, declaration_breaks, declaration_broken, declaration_rules, declarations_answer, declarations_step, declarations_at, declarations_in, variable_table}
 use Rattle.tagged.specs.declared.declarations.VariableTable.{VariableTable}
 use Rattle.tagged.specs.declared.answers.Rule.{Rule}
-use Rattle.tagged.specs.declared.answers.Found.{Found}
-use Rattle.tagged.specs.declared.answers.Answer.{Answer}
-use Rattle.tagged.specs.declared.fields.Step.TheVariants as Step
 use Rattle.tagged.proofs.FileLaws.{file_fits}
 use Rattle.tagged.proofs.RefusalLaws.{Agrees, agree_none, agree_more, same_refusal, passes_nowhere, Rising, order_rising}
 use Rattle.tagged.proofs.LowerLaws.{refusal_both, refusal_same}
 use Rattle.tagged.proofs.FoundLaws.{or_nowhere}
 use Rattle.tagged.proofs.DeclarationSizes.{variables_few}
 use Rattle.tagged.proofs.DeclarationRules.{declared_only}
-use Rattle.tagged.proofs.TableLaws.{widths_known, marks_known, mark_of}
+use Rattle.tagged.proofs.TableLaws.{widths_known, marks_known}
 use Rattle.verilog.specs.Tree.{Expression, constant, Module}
 use Rattle.verilog.specs.Form.{process_bytes, module_payload, module_form}
 use Rattle.verilog.specs.Reading.{tree_in, module_in}
@@ -36,6 +34,7 @@ use Rattle.verilog.specs.Fits.{FitsModule, module_depth, processes_depth}
 use Rattle.verilog.proofs.FormFits.{form_fits}
 use Rattle.verilog.proofs.DeclarationsKept.{declarations_kept}
 use Rattle.verilog.proofs.ModuleBytes.{PayloadRead, form_read}
+use Rattle.verilog_check.specs.declared.assignments.First.{First}
 use Rattle.verilog_check.specs.Tables.{variables_of}
 use Rattle.verilog_check.specs.Judged.{judged, judged_in, field_answer}
 use Rattle.verilog_check.specs.Walk.{walk_processes}
@@ -45,12 +44,12 @@ use Rattle.verilog_check.proofs.WalkFields.{lowest_first}
 use Rattle.verilog_check.proofs.WalkLaws.{walk_processes_lem}
 use Rattle.verilog_check.proofs.SurveyLaws.{survey_firsts}
 use Rattle.verilog_check.proofs.TableTests.{of_reference, of_widths, of_bit_number}
-use Rattle.verilog_check.proofs.TestsByCode.{of_both_kinds, of_two_processes}
+use Rattle.verilog_check.proofs.TestsByFirst.{of_both_kinds, of_two_processes}
 use Rattle.verilog_check.proofs.RulesByTables.{after_declared, process_fields, found_by, value_found, name_found, count_found, tables_found}
 use Rattle.verilog_check.proofs.FirstAssignments.{assignments_found, reads_found}
 
 -- an item's test asks for no more of its case's selector than the width
-like_selector : (widths marks firsts : List ℕ) (rule : Rule) (p : ℕ) (e : Expression) (w : ℕ) →
+like_selector : (widths : List ℕ) (marks : List Bool) (firsts : List (Option First)) (rule : Rule) (p : ℕ) (e : Expression) (w : ℕ) →
     judged_in widths marks firsts rule p (item_of e w) ≡ judged_in widths marks firsts rule p (item_of (constant (expression_width (variables_of widths) e) 0) w)
 unfolding judged breaks expression_width
 like_selector widths marks firsts Rule.FileLength p e w = refl
@@ -69,7 +68,7 @@ like_selector widths marks firsts Rule.Buffer p e w = refl
 like_selector widths marks firsts Rule.Row p e w = refl
 
 -- so for the answer
-like_answer : (widths marks firsts : List ℕ) (p : ℕ) (e : Expression) (w at : ℕ) →
+like_answer : (widths : List ℕ) (marks : List Bool) (firsts : List (Option First)) (p : ℕ) (e : Expression) (w at : ℕ) →
     field_answer widths marks firsts p (item_of e w) at ≡ field_answer widths marks firsts p (item_of (constant (expression_width (variables_of widths) e) 0) w) at
 like_answer widths marks firsts p e w at =
     refusal_same _ _ (λ rule. ap (λ (broken : Bool). found_if broken at) (like_selector widths marks firsts rule p e w)) module_rules
@@ -80,7 +79,7 @@ unfolding number_of
 in_order_lem = order_rising 0 module_rules refl
 
 -- the parts of a file
-module _ (file : List ℕ) (bytes : AllBytes file) (accepted : file_answer longest_module file ≡ Answer.Accepted) (formed : module_form file ≡ Step.Past (length file))
+module _ (file : List ℕ) (bytes : AllBytes file) (accepted : file_answer longest_module file ≡ acceptance) (formed : module_form file ≡ Ok (length file))
     (payload : List ℕ) (part : payload ≡ drop 3 file) where
   abbrev m : Module
   m = module_in file
@@ -123,7 +122,7 @@ module _ (file : List ℕ) (bytes : AllBytes file) (accepted : file_answer longe
     list_long = omega (arith, taken_is, ap length list_is, whole_length, ap length part, payload_long)
 
     -- what the code finds, by any tables
-    module _ (widths marks firsts : List ℕ) where
+    module _ (widths : List ℕ) (marks : List Bool) (firsts : List (Option First)) where
       -- the first place of a rule
       abbrev looked : Rule → Found
       looked rule = or_else (declaration_broken rule 3 m.declarations) (found_by widths marks firsts 3 m rule)
@@ -148,18 +147,18 @@ module _ (file : List ℕ) (bytes : AllBytes file) (accepted : file_answer longe
       found = ap₂ lower_refusal declared_answer walked ∙ sym (refusal_both (λ rule. declaration_broken rule 3 m.declarations) (found_by widths marks firsts 3 m) in_order_lem)
 
     -- the first assignments that the code finds
-    module _ (zeros : List ℕ) (room : length zeros ≡ most_variables) (none : (v : ℕ) → get_or zeros v 0 ≡ 0) (firsts : List ℕ)
-        (surveyed : firsts ≡ survey_from 0 0 list zeros) where
-      pub firsts_told : (v : ℕ) → v < most_variables → get_or firsts v 0 ≡ first_in v (unplaced (process_fields 3 m))
+    module _ (empty : List (Option First)) (room : length empty ≡ most_variables) (none : (v : ℕ) → get_or empty v None ≡ None) (firsts : List (Option First))
+        (surveyed : firsts ≡ survey_from 0 0 list empty) where
+      pub firsts_told : (v : ℕ) → v < most_variables → get_or firsts v None ≡ first_in v (unplaced (process_fields 3 m))
       firsts_told v few =
-          ap (λ (l : List ℕ). get_or l v 0) (surveyed ∙ ap (λ (l : List ℕ). survey_from 0 0 l zeros) list_is)
-          ∙ survey_firsts (after_declared 3 m) m.processes (omega (arith, list_long, ap length list_is)) zeros none v (omega (arith, room))
+          ap (λ (l : List (Option First)). get_or l v None) (surveyed ∙ ap (λ (l : List ℕ). survey_from 0 0 l empty) list_is)
+          ∙ survey_firsts (after_declared 3 m) m.processes (omega (arith, list_long, ap length list_is)) empty none v (omega (arith, room))
 
     -- the tables that the code makes
     module _ (table : VariableTable) (made : table ≡ variable_table (declarations_in payload)) (told : ℕ) (whole : table.count ≤ most_variables → told ≡ table.count)
-        (zeros : List ℕ) (room : length zeros ≡ most_variables) (none : (v : ℕ) → get_or zeros v 0 ≡ 0) (firsts : List ℕ) (surveyed : firsts ≡ survey_from 0 0 list zeros) where
-      known : (v : ℕ) → v < most_variables → get_or firsts v 0 ≡ first_in v (unplaced (process_fields 3 m))
-      known = firsts_told zeros room none firsts surveyed
+        (empty : List (Option First)) (room : length empty ≡ most_variables) (none : (v : ℕ) → get_or empty v None ≡ None) (firsts : List (Option First)) (surveyed : firsts ≡ survey_from 0 0 list empty) where
+      known : (v : ℕ) → v < most_variables → get_or firsts v None ≡ first_in v (unplaced (process_fields 3 m))
+      known = firsts_told empty room none firsts surveyed
 
       declared : declarations_in payload ≡ m.declarations
       unfolding tree_in
@@ -171,7 +170,7 @@ module _ (file : List ℕ) (bytes : AllBytes file) (accepted : file_answer longe
       abbrev widths : List ℕ
       widths = take told table.widths
 
-      abbrev marks : List ℕ
+      abbrev marks : List Bool
       marks = take told table.registers
 
       -- a rule that no declaration breaks is looked for among the processes
@@ -182,7 +181,7 @@ module _ (file : List ℕ) (bytes : AllBytes file) (accepted : file_answer longe
           (passes_nowhere (declaration_breaks rule) [] (placed_by declaration_bytes 3 m.declarations) (λ before p d s. never before d))
 
       -- rules 9 to 11, after rule 6
-      late : length m.declarations ≤ most_variables → module_broken 3 m Rule.Reference ≡ Found.Nowhere →
+      late : length m.declarations ≤ most_variables → module_broken 3 m Rule.Reference ≡ None →
           Agrees (module_broken 3 m) (looked widths marks firsts) (Rule.BothKinds ∷ Rule.TwoProcesses ∷ Rule.ReadElsewhere ∷ [])
       unfolding declaration_breaks
       late few existing =
@@ -197,7 +196,7 @@ module _ (file : List ℕ) (bytes : AllBytes file) (accepted : file_answer longe
       unfolding declaration_breaks
       middle few =
           let sized : widths ≡ map width_of m.declarations = sym (widths_known m.declarations table made_of told whole few) in
-          let marked : marks ≡ map mark_of m.declarations = sym (marks_known m.declarations table made_of told whole few) in
+          let marked : marks ≡ map is_register m.declarations = sym (marks_known m.declarations table made_of told whole few) in
           agree_more (tables_found 3 m widths marks firsts sized marked of_reference ∙ sym (among_processes Rule.Reference (λ earlier d. refl)))
           (λ existing. agree_more (tables_found 3 m widths marks firsts sized marked of_widths ∙ sym (among_processes Rule.Widths (λ earlier d. refl)))
           (λ like. agree_more (tables_found 3 m widths marks firsts sized marked of_bit_number ∙ sym (among_processes Rule.BitNumber (λ earlier d. refl)))

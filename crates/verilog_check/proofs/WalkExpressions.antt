@@ -9,7 +9,7 @@ use Rattle.tagged.specs.Sorts.{tag_of}
 use Rattle.tagged.specs.Fields.{Placed, fields_at}
 use Rattle.tagged.specs.declared.sorts.ExpressionSort.{ExpressionSort}
 use Rattle.tagged.specs.declared.sorts.Sort.{Sort}
-use Rattle.tagged.specs.declared.answers.Answer.{Answer}
+use Rattle.tagged.specs.Answers.{Answer}
 use Rattle.tagged.proofs.ListBytes.{field_length}
 use Rattle.verilog.specs.Tree.{Expression, constant, variable, fixed_bit, chosen_bit, one, two}
 use Rattle.verilog.specs.Form.{expression_field, expression_bytes}

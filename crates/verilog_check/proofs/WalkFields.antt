@@ -9,7 +9,7 @@ use Rattle.tagged.specs.Fields.{Placed, field_bytes, fields_at, read_from}
 use Rattle.tagged.specs.Refusals.{first_broken, found_if, first_refusal, lower_refusal}
 use Rattle.tagged.specs.declared.sorts.Sort.{Sort}
 use Rattle.tagged.specs.declared.answers.Rule.{Rule}
-use Rattle.tagged.specs.declared.answers.Answer.{Answer}
+use Rattle.tagged.specs.Answers.{acceptance, Answer}
 use Rattle.tagged.proofs.RefusalLaws.{Rising}
 use Rattle.tagged.proofs.FoundLaws.{found_same}
 use Rattle.tagged.proofs.LowerLaws.{lower_accepted, lower_joined, refusal_same, refusal_nowhere, answer_front}
@@ -21,7 +21,7 @@ use Rattle.verilog_check.specs.Walk.{Walker, walk_all}
 -- elements that are judged each by itself, at its place
 module _ {A : Type 0} (judge : A → ℕ → Answer) where
   abbrev pub lowest_of : List (Placed A) → Answer
-  lowest_of [] = Answer.Accepted
+  lowest_of [] = acceptance
   lowest_of (x ∷ l) = lower_refusal (judge x.what x.place) (lowest_of l)
 
   -- one list, and then the other
@@ -50,7 +50,7 @@ pub record Walked (walk : Walker) (at : ℕ) (bytes : List ℕ) (answer : Answer
   pub gives : walk at sort payload ≡ answer
 
 -- nothing is left
-pub walk_none : (walk : Walker) (at : ℕ) → walk_all walk (fields_at at []) ≡ Answer.Accepted
+pub walk_none : (walk : Walker) (at : ℕ) → walk_all walk (fields_at at []) ≡ acceptance
 unfolding walk_all fields_at read_from
 walk_none walk at = refl
 

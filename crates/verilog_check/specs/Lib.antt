@@ -3,3 +3,4 @@ pub mod Tables
 pub mod Judged
 pub mod Walk
 pub mod Survey
+pub mod Known

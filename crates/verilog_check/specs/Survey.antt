@@ -1,9 +1,10 @@
 -- The first assignment to each variable, by one pass over the bytes of processes: every field that holds statements is stepped into, every other is passed over.
-use Rattle.std.specs.Prelude.{List, [], ◌∷◌, ℕ, zero, suc, ◌+◌, ◌-◌, get_or}
+use Rattle.std.specs.Prelude.{List, [], ◌∷◌, Option, ℕ, zero, suc, ◌+◌, ◌-◌, get_or}
 use Rattle.tagged.specs.Fields.{open_of, on_field}
 use Rattle.tagged.specs.declared.sorts.StatementSort.{StatementSort}
 use Rattle.tagged.specs.declared.sorts.Sort.{Sort}
-use Rattle.verilog_check.specs.Tables.{first_code, with_first}
+use Rattle.verilog_check.specs.declared.assignments.First.{First}
+use Rattle.verilog_check.specs.Tables.{note_first}
 
 -- how many bytes further the next field stands, after one of n bytes of payload
 unfoldable pub step_over : Sort → ℕ → ℕ
@@ -37,9 +38,9 @@ begun_after Sort.Netlist begun = begun
 begun_after Sort.Unknown begun = begun
 
 -- the table after a field of this sort whose payload begins with this byte
-unfoldable pub noted : Sort → ℕ → ℕ → List ℕ → List ℕ
-noted (Sort.Statement (StatementSort.Assign kind)) v begun firsts = with_first firsts v (first_code begun kind)
-noted (Sort.Statement (StatementSort.AssignBit kind)) v begun firsts = with_first firsts v (first_code begun kind)
+unfoldable pub noted : Sort → ℕ → ℕ → List (Option First) → List (Option First)
+noted (Sort.Statement (StatementSort.Assign kind)) v begun firsts = note_first firsts v begun kind
+noted (Sort.Statement (StatementSort.AssignBit kind)) v begun firsts = note_first firsts v begun kind
 noted (Sort.Statement StatementSort.If) v begun firsts = firsts
 noted (Sort.Statement StatementSort.Case) v begun firsts = firsts
 noted Sort.Process v begun firsts = firsts
@@ -54,7 +55,7 @@ noted Sort.Netlist v begun firsts = firsts
 noted Sort.Unknown v begun firsts = firsts
 
 -- the table after a list of bytes; the first number is how many bytes are still to be passed over, the second how many processes have begun
-unfoldable pub survey_from : ℕ → ℕ → List ℕ → List ℕ → List ℕ
+unfoldable pub survey_from : ℕ → ℕ → List ℕ → List (Option First) → List (Option First)
 survey_from skip begun [] firsts = firsts
 survey_from zero begun (x ∷ l) firsts =
     on_field (open_of 0 0 (x ∷ l)) (λ s n. survey_from (step_over s n - 1) (begun_after s begun) l (noted s (get_or l 2 0) begun firsts)) firsts

@@ -7,7 +7,7 @@ use Rattle.tagged.specs.Refusals.{lower_refusal}
 use Rattle.tagged.specs.declared.sorts.StatementSort.{StatementSort}
 use Rattle.tagged.specs.declared.sorts.ExpressionSort.{ExpressionSort}
 use Rattle.tagged.specs.declared.sorts.Sort.{Sort}
-use Rattle.tagged.specs.declared.answers.Answer.{Answer}
+use Rattle.tagged.specs.Answers.{acceptance, Answer}
 use Rattle.verilog.specs.Tree.{Expression, constant, Statement}
 use Rattle.verilog.specs.Nodes.{What, process, expression, statement, item_of}
 use Rattle.verilog.specs.Reading.{front_by, expression_with, expression_in, statement_with, block_in, item_in}
@@ -22,7 +22,7 @@ Walker = ℕ → Sort → List ℕ → Answer
 
 -- the fields of a list, one after the other
 unfoldable pub walk_all : Walker → List (Placed Field) → Answer
-walk_all walk [] = Answer.Accepted
+walk_all walk [] = acceptance
 walk_all walk (x ∷ l) = lower_refusal (walk x.place x.what.sort x.what.payload) (walk_all walk l)
 
 -- how many bytes stand before an expression's operands, or a statement's first inner field
@@ -42,12 +42,12 @@ before_parts StatementSort.Case = 0
 
 -- an expression, then its operands
 unfoldable pub walk_expression : Judge → ℕ → Walker
-walk_expression judge zero at s l = Answer.Accepted
+walk_expression judge zero at s l = acceptance
 walk_expression judge (suc d) at s l =
     on_expression s
     (λ e. lower_refusal (judge (expression (expression_with (expression_in d) e l)) at)
     (walk_all (walk_expression judge d) (fields_at (at + 3 + before_operands e) (drop (before_operands e) l))))
-    Answer.Accepted
+    acceptance
 
 -- the statement that is read from a payload where d levels may be opened
 abbrev pub statement_of : ℕ → StatementSort → List ℕ → Statement
@@ -58,14 +58,14 @@ abbrev pub by_part : Sort → Answer → Answer → Answer → Answer
 by_part (Sort.Expression e) in_expression in_item in_block = in_expression
 by_part Sort.Item in_expression in_item in_block = in_item
 by_part Sort.Block in_expression in_item in_block = in_block
-by_part Sort.Module in_expression in_item in_block = Answer.Accepted
-by_part (Sort.Declaration d) in_expression in_item in_block = Answer.Accepted
-by_part Sort.Process in_expression in_item in_block = Answer.Accepted
-by_part (Sort.Statement s) in_expression in_item in_block = Answer.Accepted
-by_part (Sort.Cell c) in_expression in_item in_block = Answer.Accepted
-by_part Sort.Drive in_expression in_item in_block = Answer.Accepted
-by_part Sort.Netlist in_expression in_item in_block = Answer.Accepted
-by_part Sort.Unknown in_expression in_item in_block = Answer.Accepted
+by_part Sort.Module in_expression in_item in_block = acceptance
+by_part (Sort.Declaration d) in_expression in_item in_block = acceptance
+by_part Sort.Process in_expression in_item in_block = acceptance
+by_part (Sort.Statement s) in_expression in_item in_block = acceptance
+by_part (Sort.Cell c) in_expression in_item in_block = acceptance
+by_part Sort.Drive in_expression in_item in_block = acceptance
+by_part Sort.Netlist in_expression in_item in_block = acceptance
+by_part Sort.Unknown in_expression in_item in_block = acceptance
 
 -- the width that a statement's items are held against: its first expression's
 abbrev pub selector_width : (Expression → ℕ) → ℕ → List ℕ → ℕ
@@ -78,16 +78,16 @@ item_first judge w at l inner = lower_refusal (judge (item_of (constant w 0) (fr
 unfoldable mutual
   -- a statement, then its expressions, items and blocks
   pub walk_statement : Judge → (Expression → ℕ) → ℕ → Walker
-  walk_statement judge width zero at s l = Answer.Accepted
+  walk_statement judge width zero at s l = acceptance
   walk_statement judge width (suc d) at s l =
       on_statement s
       (λ t. lower_refusal (judge (statement (statement_of d t l)) at)
       (walk_all (λ a u p. walk_part judge width d (selector_width width d l) a u p) (fields_at (at + 3 + before_parts t) (drop (before_parts t) l))))
-      Answer.Accepted
+      acceptance
 
   -- an expression, an item or a block, in a statement whose items are held against the width w
   pub walk_part : Judge → (Expression → ℕ) → ℕ → ℕ → Walker
-  walk_part judge width zero w at s l = Answer.Accepted
+  walk_part judge width zero w at s l = acceptance
   walk_part judge width (suc d) w at s l =
       by_part s (walk_expression judge (suc d) at s l)
       (item_first judge w at l (walk_all (λ a u p. walk_part judge width d w a u p) (fields_at (at + 3) l)))
@@ -100,10 +100,10 @@ walk_item judge width d w at l = item_first judge w at l (walk_all (walk_part ju
 -- a process, then its statements, which have 30 levels left
 unfoldable pub walk_process : Judge → (Expression → ℕ) → Walker
 walk_process judge width at s l =
-    cond (is_sort Sort.Process s) (lower_refusal (judge process at) (walk_all (walk_statement judge width 30) (fields_at (at + 3) l))) Answer.Accepted
+    cond (is_sort Sort.Process s) (lower_refusal (judge process at) (walk_all (walk_statement judge width 30) (fields_at (at + 3) l))) acceptance
 
 -- processes, from number p on
 unfoldable pub walk_processes : (ℕ → Judge) → (Expression → ℕ) → ℕ → List (Placed Field) → Answer
-walk_processes judge width p [] = Answer.Accepted
+walk_processes judge width p [] = acceptance
 walk_processes judge width p (x ∷ l) =
     lower_refusal (walk_process (judge p) width x.place x.what.sort x.what.payload) (walk_processes judge width (p + 1) l)

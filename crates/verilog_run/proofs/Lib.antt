@@ -1,4 +1,5 @@
 -- Laws of a run: what the code computes is the cycle of an accepted module.
+pub mod VariableLaws
 pub mod ExecutionSteps
 pub mod NumberLaws
 pub mod WrittenFields

@@ -3,8 +3,7 @@ use mathlib.Core.Path.{◌≡◌}
 use mathlib.Core.List.{List}
 use Prim.Native.Nat.{ℕ}
 use lib.ListN.{length}
-use Rattle.tagged.specs.Answers.{Promise}
-use Rattle.tagged.specs.declared.answers.Answer.{Answer}
+use Rattle.tagged.specs.Answers.{Promise, Answer}
 use Rattle.tagged.proofs.AnswerLaws.{coincide}
 use Rattle.verilog.specs.Run.{run_answer, run_leaves}
 

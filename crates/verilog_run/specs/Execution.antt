@@ -1,5 +1,5 @@
 -- What the code of a run does to the values, over the bytes of processes. The number d is how many levels may be opened.
-use Rattle.std.specs.Prelude.{Bool, cond, List, [], ◌∷◌, ℕ, zero, suc, ◌%◌, eqb, get_or, drop}
+use Rattle.std.specs.Prelude.{◌≡◌, Bool, cond, List, [], ◌∷◌, Option, None, ℕ, zero, suc, eqb, get_or, drop, map}
 use Rattle.words.specs.Results.{put_result}
 use Rattle.tagged.specs.Bytes.{four_of}
 use Rattle.tagged.specs.Choice.{choose}
@@ -9,12 +9,27 @@ use Rattle.tagged.specs.declared.sorts.Kind.{Kind}
 use Rattle.tagged.specs.declared.sorts.StatementSort.{StatementSort}
 use Rattle.tagged.specs.declared.sorts.Sort.{Sort}
 use Rattle.verilog.specs.Reading.{front_by, after_front, expression_in, by_branch}
-use Rattle.verilog.specs.Cycle.{State, held, changed, settled}
+use Rattle.verilog.specs.Cycle.{State, held, changed, settled, is_non_blocking}
+use Rattle.verilog_check.specs.declared.assignments.First.{First}
+use Rattle.verilog_check.specs.Tables.{kind_of}
+use Rattle.verilog_run.specs.declared.variables.Variable.{Variable}
 use Rattle.verilog_run.specs.Numbers.{number_in}
 
--- the values as the code holds them, in two tables
-abbrev pub state_of : List ℕ → List ℕ → State
-state_of current pending = record { current = current; pending = pending }
+-- the widths of the variables that the code holds, and their values
+abbrev pub widths_of : List Variable → List ℕ
+widths_of l = map (λ (v : Variable). v.width) l
+
+abbrev pub state_of : List Variable → State
+state_of l = record { current = map (λ (v : Variable). v.current) l; pending = map (λ (v : Variable). v.pending) l }
+
+-- a run of the variables by what it does to their values: their widths stay
+pub record Runs (run : List ℕ → State → State) (before after : List Variable) : Type 0 where
+  pub widths : widths_of after ≡ widths_of before
+  pub values : state_of after ≡ run (widths_of before) (state_of before)
+
+-- both values of each variable begin as the row's
+abbrev pub begun : List ℕ → State
+begun row = record { current = row; pending = row }
 
 -- runs a field: its sort, its payload, the values before, the values after
 abbrev pub Runner : Type 0
@@ -85,9 +100,9 @@ unfoldable pub run_processes : List ℕ → List ℕ → State → State
 run_processes widths l state = run_all (run_process widths) (fields_at 0 l) state
 
 -- is a variable assigned by non-blocking? By the table of first assignments: rule 9 leaves a variable only one kind
-abbrev pub delayed_by : List ℕ → ℕ → Bool
-delayed_by firsts v = eqb (get_or firsts v 0 % 2) 1
+abbrev pub delayed_by : List (Option First) → ℕ → Bool
+delayed_by firsts v = is_non_blocking (kind_of (get_or firsts v None))
 
 -- the row that the values are settled to
-abbrev pub settled_state : List ℕ → State → List ℕ
+abbrev pub settled_state : List (Option First) → State → List ℕ
 settled_state firsts s = settled (delayed_by firsts) 0 s.current s.pending

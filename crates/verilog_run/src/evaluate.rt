@@ -2,16 +2,17 @@
 ghost use Rattle.std.specs.Prelude.{◌≡◌};
 ghost use Rattle.verilog.specs.Reading.{expression_with, expression_in};
 ghost use Rattle.verilog_run.specs.Numbers.{one_of, two_of, number_in};
+ghost use Rattle.verilog_run.specs.Execution.{widths_of, state_of};
 
-use tagged::bytes::{byte_at, four_of, from};
-use tagged::fields::{Opened, open_field};
-use tagged::rows::number_at;
+use crate::variables::{Variable, variable_at};
+use tagged::bytes::{four_of, from, get_or};
+use tagged::fields::open_field;
 use tagged::sorts::{ExpressionSort, Sort};
 use verilog::reading::after_front;
 use words::{OneOperand, TwoOperand, bit, one_result, two_result};
 
 // A number with the width of its vector.
-#[derive(Clone, Copy)]
+#[derive(Clone, Copy, Debug, Default, PartialEq, Eq)]
 pub struct Number {
     pub width: u8,
     pub number: u32,
@@ -38,68 +39,55 @@ fn two_of(op: TwoOperand, first: Number, second: Number) -> Number
 }
 
 // The value of the expression at the front of a part.
+#[tactic(auto, using(verilog::proofs::FrontReading::no_level, verilog::proofs::FrontReading::read_expression, verilog::proofs::FrontReading::read_other, verilog::proofs::FrontReading::read_none, tagged::proofs::WalkLaws::front_within), unfolding(crate::specs::Numbers::number_in))]
 #[cycle(value_by_value_of)]
-pub fn value_of(part: &[u8], depth: usize, widths: &[u8], current: &[u32]) -> Number
-    ensures { result ≡ number_in widths.now current.now (expression_in depth part.now) }
+pub fn value_of(part: &[u8], depth: usize, variables: &[Variable]) -> Number
+    ensures { result ≡ number_in (widths_of variables.now) (state_of variables.now).current (expression_in depth part.now) }
 {
-    let nothing = Number {
-        width: 0,
-        number: 0,
-    };
     if depth == 0 {
-        return nothing;
+        return Number::default();
     }
-    match open_field(part, 0, 0) {
-        Opened::Field(sort, size) => match sort {
-            Sort::Expression(inner) => {
-                value_by(inner, &part[3..size + 3], depth - 1, widths, current)
-            }
-            _ => nothing,
-        },
-        Opened::Refused(_) => nothing,
+    let Ok((sort, size)) = open_field(part, 0, 0) else {
+        return Number::default();
+    };
+    match sort {
+        Sort::Expression(inner) => value_by(inner, &part[3..size + 3], depth - 1, variables),
+        _ => Number::default(),
     }
 }
 
 // The value of an expression, by its sort and payload.
+#[tactic(auto, unfolding(crate::specs::Numbers::number_in))]
 #[cycle(value_by_value_of)]
-fn value_by(
-    sort: ExpressionSort,
-    payload: &[u8],
-    depth: usize,
-    widths: &[u8],
-    current: &[u32],
-) -> Number
-    ensures { result ≡ number_in widths.now current.now (expression_with (expression_in depth) sort payload.now) }
+fn value_by(sort: ExpressionSort, payload: &[u8], depth: usize, variables: &[Variable]) -> Number
+    ensures { result ≡ number_in (widths_of variables.now) (state_of variables.now).current (expression_with (expression_in depth) sort payload.now) }
 {
-    let variable = byte_at(payload, 0);
+    let variable = variable_at(variables, get_or(payload, 0, 0));
     match sort {
         ExpressionSort::Constant => Number {
-            width: variable,
+            width: get_or(payload, 0, 0),
             number: four_of(from(payload, 1)),
         },
         ExpressionSort::Variable => Number {
-            width: byte_at(widths, variable as usize),
-            number: number_at(current, variable as u32),
+            width: variable.width,
+            number: variable.current,
         },
         ExpressionSort::FixedBit => Number {
             width: 1,
-            number: bit(
-                number_at(current, variable as u32),
-                byte_at(payload, 1) as u32,
-            ),
+            number: bit(variable.current, u32::from(get_or(payload, 1, 0))),
         },
         ExpressionSort::ChosenBit => {
-            let index = value_of(from(payload, 1), depth, widths, current);
+            let index = value_of(from(payload, 1), depth, variables);
             Number {
                 width: 1,
-                number: bit(number_at(current, variable as u32), index.number),
+                number: bit(variable.current, index.number),
             }
         }
-        ExpressionSort::One(op) => one_of(op, value_of(payload, depth, widths, current)),
+        ExpressionSort::One(op) => one_of(op, value_of(payload, depth, variables)),
         ExpressionSort::Two(op) => two_of(
             op,
-            value_of(payload, depth, widths, current),
-            value_of(after_front(payload), depth, widths, current),
+            value_of(payload, depth, variables),
+            value_of(after_front(payload), depth, variables),
         ),
     }
 }

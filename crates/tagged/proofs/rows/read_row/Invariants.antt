@@ -7,6 +7,3 @@ use Rattle.tagged.proofs.rows.read_row.Given as goal
 
 abbrev pub invariant-loop-at : goal.invariant-loop-at
 invariant-loop-at l = (length l.values ≡ length l.initial.values) × (take l.at l.values ++ row_numbers (length l.initial.values - l.at) (drop (4 * l.at) l.row) ≡ row_numbers (length l.initial.values) l.row)
-
-abbrev pub decreases-loop-at : goal.decreases-loop-at
-decreases-loop-at l = length l.initial.values - l.at

@@ -6,6 +6,3 @@ use Rattle.tagged.proofs.rows.rows_fit.Given as goal
 
 abbrev pub invariant-loop-at : goal.invariant-loop-at
 invariant-loop-at l = all_fit (drop l.at l.widths) (row_numbers (length l.widths - l.at) (drop (4 * l.at) l.row)) ≡ rows_fit l.widths l.row l.next_length
-
-abbrev pub decreases-loop-at : goal.decreases-loop-at
-decreases-loop-at l = length l.widths - l.at

@@ -1,11 +1,7 @@
-use Prim.Native.Nat.{◌-◌}
-use lib.ListN.{length, take}
+use lib.ListN.{take}
 use Rattle.tagged.specs.Bytes.{Wrote}
 use Rattle.tagged.specs.Rows.{row_bytes}
 use Rattle.tagged.proofs.rows.write_row.Given as goal
 
-abbrev pub invariant-loop-at : goal.invariant-loop-at
-invariant-loop-at l = Wrote l.initial.next 0 (row_bytes (take l.at l.values)) l.next l.place
-
-abbrev pub decreases-loop-at : goal.decreases-loop-at
-decreases-loop-at l = length l.values - l.at
+abbrev pub invariant-loop-value : goal.invariant-loop-value
+invariant-loop-value l = Wrote l.initial.next 0 (row_bytes (take l.value-index l.values)) l.next l.place

@@ -1,9 +1,10 @@
 -- What falls with each call and each turn, and what the loops keep. Assumes nothing.
-use Prim.Native.Nat.{◌+◌, ◌*◌, ◌≤◌, ◌-◌}
+use Prim.Native.Nat.{ℕ, ◌+◌, ◌*◌}
+use mathlib.Core.List.{List}
 use mathlib.Core.Path.{◌≡◌}
-use lib.ListN.{length, drop}
-use Rattle.verilog_run.specs.Execution.{state_of, run_block, run_items, run_item, run_all, run_statement}
+use Rattle.verilog_run.specs.Execution.{widths_of, state_of, run_block, run_items, run_item, run_all, run_statement}
 use Rattle.tagged.specs.Fields.{fields_at}
+use Rattle.tagged.specs.Walk.{fields_left}
 use Rattle.verilog_run.proofs.execute.+execution.Given as goal
 
 abbrev pub decreases-block : goal.decreases-block
@@ -33,20 +34,15 @@ decreases-statement_by l = 4 * l.depth + 3
 abbrev pub decreases-statements : goal.decreases-statements
 decreases-statements l = 4 * l.depth + 1
 
-abbrev pub invariant-items-loop-sort : goal.invariant-items-loop-sort
-invariant-items-loop-sort l =
-    (l.at ≤ length l.list) × (length l.current ≡ length l.initial.current) × (length l.pending ≡ length l.initial.pending)
-    × (run_items (run_item l.widths l.depth) (run_block l.widths l.depth) l.selector (fields_at (0 + l.at) (drop l.at l.list)) (state_of l.current l.pending)
-    ≡ run_items (run_item l.widths l.depth) (run_block l.widths l.depth) l.selector (fields_at 0 l.list) (state_of l.initial.current l.initial.pending))
+abbrev pub invariant-items-loop-field : goal.invariant-items-loop-field
+invariant-items-loop-field l =
+    let widths : List ℕ = widths_of l.initial.variables in
+    (widths_of l.variables ≡ widths)
+    × (run_items (run_item widths l.depth) (run_block widths l.depth) l.selector (fields_left l.field-iterator) (state_of l.variables)
+    ≡ run_items (run_item widths l.depth) (run_block widths l.depth) l.selector (fields_at 0 l.list) (state_of l.initial.variables))
 
-abbrev pub decreases-items-loop-sort : goal.decreases-items-loop-sort
-decreases-items-loop-sort l = length l.list - l.at
-
-abbrev pub invariant-statements-loop-sort : goal.invariant-statements-loop-sort
-invariant-statements-loop-sort l =
-    (l.at ≤ length l.list) × (length l.current ≡ length l.initial.current) × (length l.pending ≡ length l.initial.pending)
-    × (run_all (run_statement l.widths l.depth) (fields_at (0 + l.at) (drop l.at l.list)) (state_of l.current l.pending)
-    ≡ run_all (run_statement l.widths l.depth) (fields_at 0 l.list) (state_of l.initial.current l.initial.pending))
-
-abbrev pub decreases-statements-loop-sort : goal.decreases-statements-loop-sort
-decreases-statements-loop-sort l = length l.list - l.at
+abbrev pub invariant-statements-loop-field : goal.invariant-statements-loop-field
+invariant-statements-loop-field l =
+    (widths_of l.variables ≡ widths_of l.initial.variables)
+    × (run_all (run_statement (widths_of l.initial.variables) l.depth) (fields_left l.field-iterator) (state_of l.variables)
+    ≡ run_all (run_statement (widths_of l.initial.variables) l.depth) (fields_at 0 l.list) (state_of l.initial.variables))

@@ -1,13 +1,11 @@
+-- What the loop over the processes keeps: the widths, and that what is left makes of the values what the whole list makes of the first ones.
 use mathlib.Core.Path.{◌≡◌}
-use Prim.Native.Nat.{◌≤◌, ◌+◌, ◌-◌}
-use lib.ListN.{length, drop}
 use Rattle.tagged.specs.Fields.{fields_at}
-use Rattle.verilog_run.specs.Execution.{state_of, run_all, run_process, run_processes}
+use Rattle.tagged.specs.Walk.{fields_left}
+use Rattle.verilog_run.specs.Execution.{widths_of, state_of, run_all, run_process}
 use Rattle.verilog_run.proofs.execute.processes.Given as goal
 
-abbrev pub invariant-loop-sort : goal.invariant-loop-sort
-invariant-loop-sort l = (l.at ≤ length l.list) × (length l.current ≡ length l.initial.current) × (length l.pending ≡ length l.initial.pending)
-    × (run_all (run_process l.widths) (fields_at (0 + l.at) (drop l.at l.list)) (state_of l.current l.pending) ≡ run_processes l.widths l.list (state_of l.initial.current l.initial.pending))
-
-abbrev pub decreases-loop-sort : goal.decreases-loop-sort
-decreases-loop-sort l = length l.list - l.at
+abbrev pub invariant-loop-field : goal.invariant-loop-field
+invariant-loop-field l = (widths_of l.variables ≡ widths_of l.initial.variables)
+    × (run_all (run_process (widths_of l.initial.variables)) (fields_left l.field-iterator) (state_of l.variables)
+    ≡ run_all (run_process (widths_of l.initial.variables)) (fields_at 0 l.list) (state_of l.initial.variables))
