@@ -132,3 +132,37 @@ module_deep (suc d) at s l h = absurd (omega arith)
 pub module_open : (d at : ℕ) (s : Sort) (l : List ℕ) → 0 < d → module_body d at s l ≡ module_of (field_by (process_body (d - 1))) at s l
 module_open zero at s l h = absurd (omega arith)
 module_open (suc d) at s l h = rw sub-one
+
+-- so while a level is left, a field of another sort than the wanted one is refused at its own place
+some_left : (d : ℕ) → (d ≡ 0 → ⊥) → 0 < d
+some_left zero h = absurd (h refl)
+some_left (suc d) h = omega arith
+
+module _ (d : ℕ) (h : d ≡ 0 → ⊥) (at : ℕ) (s : Sort) (l : List ℕ) where
+  pub expression_other : ((e : ExpressionSort) → s ≡ Sort.Expression e → ⊥) → Err (fault_at at) ≡ expression_body d at s l
+  expression_other k = not_expression s _ _ k ∙ sym (expression_open d at s l (some_left d h))
+
+  pub constant_other : ((e : ExpressionSort) → s ≡ Sort.Expression e → ⊥) → Err (fault_at at) ≡ constant_body d at s l
+  constant_other k = rw (constant_open d at s l (some_left d h), is_missed (Sort.Expression ExpressionSort.Constant) s (k ExpressionSort.Constant))
+
+  pub statement_other : ((t : StatementSort) → s ≡ Sort.Statement t → ⊥) → Err (fault_at at) ≡ statement_body d at s l
+  statement_other k = not_statement s _ _ k ∙ sym (statement_open d at s l (some_left d h))
+
+  pub block_other : (s ≡ Sort.Block → ⊥) → Err (fault_at at) ≡ block_body d at s l
+  block_other k = rw (block_open d at s l (some_left d h), is_missed Sort.Block s k)
+
+  pub item_other : (s ≡ Sort.Item → ⊥) → Err (fault_at at) ≡ item_body d at s l
+  item_other k = rw (item_open d at s l (some_left d h), is_missed Sort.Item s k)
+
+  pub process_other : (s ≡ Sort.Process → ⊥) → Err (fault_at at) ≡ process_body d at s l
+  process_other k = rw (process_open d at s l (some_left d h), is_missed Sort.Process s k)
+
+  pub module_other : (s ≡ Sort.Module → ⊥) → Err (fault_at at) ≡ module_body d at s l
+  module_other k = rw (module_open d at s l (some_left d h), is_missed Sort.Module s k)
+
+-- and an item's constant of another sort of expression at its own place
+pub constant_wrong : (at : ℕ) (e : ExpressionSort) (l : List ℕ) → (e ≡ ExpressionSort.Constant → ⊥) → Err (fault_at at) ≡ constant_of at (Sort.Expression e) l
+constant_wrong at e l k = rw (is_missed (Sort.Expression ExpressionSort.Constant) (Sort.Expression e) other)
+  where
+    other : Sort.Expression e ≡ Sort.Expression ExpressionSort.Constant → ⊥
+    other z = let same : e ≡ ExpressionSort.Constant = cc in k same
