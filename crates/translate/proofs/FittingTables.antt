@@ -31,7 +31,7 @@ pub record FitsTables (count : ℕ) (t : Tables) : Type 0 where
 
 -- each variable itself
 
-themselves_count : (v : ℕ) (ds : List Declaration) → length (themselves v ds) ≡ length ds
+pub themselves_count : (v : ℕ) (ds : List Declaration) → length (themselves v ds) ≡ length ds
 unfolding themselves
 themselves_count v [] = refl
 themselves_count v (d ∷ ds) = ap suc (themselves_count (v + 1) ds)

@@ -18,5 +18,6 @@ pub mod Drives
 pub mod Agrees
 pub mod AgreesAlways
 pub mod FittingTables
+pub mod FittingProcesses
 pub mod CellBounds
 pub mod Demand3

@@ -38,13 +38,15 @@ use Rattle.verilog_check.proofs.TreeAnswers.{tree_fits, processes_deep, declared
 use Rattle.verilog_check.proofs.AcceptedFile.{one_kind, length_accepted, form_passed, few_variables, payload_declared}
 use Rattle.translate.specs.Translation.{translated_module, netlist_of}
 use Rattle.translate.specs.Answer.{netlist_of_file, translated_bytes, cell_count, after_check, translate_answer, buffer_after, translate_buffer}
+use Rattle.translate.proofs.FittingTables.{FitsTables, start_fits}
+use Rattle.translate.proofs.CellBounds.{FewOperands, all_cells}
 use Rattle.translate_blocks.specs.Writing.{Written, write_processes}
 use Rattle.translate_blocks.specs.Ends.{start_table, drives_by}
 use Rattle.translator.specs.declared.parts.Parts.{Parts}
 use Rattle.translator.specs.Passes.{passed, passed_cells, rest_of, whole_of, length_of, pass_answer, pass_buffer}
 use Rattle.translator.proofs.OperandTables.{one_table}
 use Rattle.translator.proofs.JoinedTables.{Gives, gives_by}
-use Rattle.translator.proofs.WrittenTrees.{processes_written}
+use Rattle.translator.proofs.WrittenTrees.{GivesAll, processes_written}
 use Rattle.translator.proofs.StartTable.{start_tables, start_table_lem, start_sized}
 use Rattle.translator.proofs.DriveTables.{drives_of_table}
 use Rattle.translator.proofs.PassSteps.{whole_long}
@@ -63,13 +65,21 @@ bytes_whole n size e =
 -- a tree that is accepted
 module _ (m : Module) (accepted : tree_answer 3 m ≡ acceptance) (few : length m.declarations ≤ most_variables) (fits : FitsModule m)
     (deep : processes_depth m.processes ≤ 31) where
-  gives : length (all_bytes_of process_bytes m.processes) ≤ longest_module →
-      Gives (length m.declarations) (write_processes (length m.declarations) (all_bytes_of process_bytes m.processes) (one_table (start_tables m.declarations)) 0)
-      (translated_module m)
+  written : length (all_bytes_of process_bytes m.processes) ≤ longest_module →
+      GivesAll (length m.declarations) 0 (start_tables m.declarations)
+      (write_processes (length m.declarations) (all_bytes_of process_bytes m.processes) (one_table (start_tables m.declarations)) 0) (translated_module m)
   unfolding translated_module
-  gives long =
+  written long =
       processes_written m.declarations (length m.declarations) refl m.processes (accepted_typed 3 m accepted).processes fits.processes deep (omega arith)
       (start_tables m.declarations) (start_sized m.declarations) 0
+
+  -- its last operands fit their bytes: the variables do, and there are few cells
+  pub operands_fit : length (all_bytes_of process_bytes m.processes) ≤ longest_module → FitsTables (length m.declarations) (translated_module m).tables
+  unfolding translated_module
+  operands_fit long =
+      let start : FitsTables (length m.declarations) (start_tables m.declarations) = start_fits m.declarations fits.declarations (omega arith) in
+      let small : FewOperands (start_tables m.declarations) = record { current = omega (arith, start.current_count); pending = omega (arith, start.pending_count) } in
+      (written long).fits start (omega (arith, all_cells m.processes (start_tables m.declarations) 0 small))
 
   -- parts of it: the widths and marks of its declarations, the bytes of its processes, and a table of first assignments
   module _ (p : Parts) (widths : p.widths.now ≡ map width_of m.declarations) (marks : p.marks.now ≡ map is_register m.declarations)
@@ -81,7 +91,7 @@ module _ (m : Module) (accepted : tree_answer 3 m ≡ acceptance) (few : length 
         (ap₂ (λ (w l : List ℕ). write_processes (length w) l (start_table w) 0) widths list
         ∙ ap₂ (λ (k : ℕ) (t : List Operand). write_processes k (all_bytes_of process_bytes m.processes) t 0) (length-map m.declarations width_of)
         (start_table_lem m.declarations))
-        (gives (omega (arith, p.short, ap length list)))
+        (written (omega (arith, p.short, ap length list))).gives
 
     drives_are : drives_by p.marks.now p.firsts.now (one_table (translated_module m).tables) ≡ (netlist_of m).drives
     unfolding netlist_of

@@ -1,11 +1,12 @@
 -- The table that the code begins with is the one that the translation begins with: each variable itself. By induction on the declarations. Assumes nothing.
 use mathlib.Core.Path.{◌≡◌, refl, ap}
 use mathlib.Core.List.{List, [], ◌∷◌, ◌++◌, map}
-use Prim.Native.Nat.{ℕ, suc, ◌+◌}
+use Prim.Native.Nat.{ℕ, ◌+◌}
 use lib.ListN.{length}
 use Rattle.tagged.specs.Declarations.{Declaration, width_of}
 use Rattle.netlist.specs.declared.Operand.{Operand}
 use Rattle.translate.specs.Tables.{Tables, themselves}
+use Rattle.translate.proofs.FittingTables.{themselves_count}
 use Rattle.translate_blocks.specs.Ends.{start_from, start_table}
 use Rattle.translator.proofs.OperandTables.{one_table, Sized}
 
@@ -13,11 +14,6 @@ start_from_lem : (v : ℕ) (ds : List Declaration) → start_from v (map width_o
 unfolding start_from themselves
 start_from_lem v [] = refl
 start_from_lem v (d ∷ ds) = ap (λ (l : List Operand). Operand.Variable (width_of d) v ∷ l) (start_from_lem (v + 1) ds)
-
-themselves_count : (v : ℕ) (ds : List Declaration) → length (themselves v ds) ≡ length ds
-unfolding themselves
-themselves_count v [] = refl
-themselves_count v (d ∷ ds) = ap suc (themselves_count (v + 1) ds)
 
 -- each variable itself, as current and as pending operand
 abbrev pub start_tables : List Declaration → Tables

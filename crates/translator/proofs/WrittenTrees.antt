@@ -1,9 +1,10 @@
 -- What the code of the translation gives over the bytes of typed processes, with one table of operands, is the translation of their tree: the same cells, and the
--- operands after them. By induction on the typing of statements, blocks and items; the number d is how many levels may be opened. Assumes nothing.
+-- operands after them, which fit a word if those before them do. By induction on the typing of statements, blocks and items; the number d is how many levels may be
+-- opened. Assumes nothing.
 use mathlib.Core.Path.{◌≡◌, refl, ap, subst}
 use mathlib.Core.Bool.{true}
 use mathlib.Core.List.{List, ◌∷◌, ◌++◌, append_assoc}
-use Prim.Native.Nat.{ℕ, zero, suc, ◌+◌, ◌≤◌, ◌<◌}
+use Prim.Native.Nat.{ℕ, zero, suc, ◌+◌, ◌^◌, ◌≤◌, ◌<◌}
 use native.Mathlib.Omega.{arith}
 use lib.ListN.{length, length-append}
 use Rattle.tagged.specs.Sorts.{tag_of}
@@ -24,7 +25,9 @@ use Rattle.verilog.proofs.WrittenFields.{after_field, constant_bytes}
 use Rattle.verilog.proofs.Typed.{TypedStatement, assign_typed, assign_bit_typed, if_else_typed, case_typed, TypedBlock, end_typed, then_typed, TypedItems, default_typed, item_typed, TypedAll, none_typed, more_typed}
 use Rattle.translate.specs.Tables.{Tables, Translated}
 use Rattle.translate.specs.Translation.{Emitted, translate_expression, translate_statement, translate_block, translate_items, translate_all}
-use Rattle.translate_blocks.specs.Writing.{write_all, write_items, write_front, write_statement, write_block, write_item, write_process, write_processes}
+use Rattle.translate.proofs.FittingTables.{FitsTables}
+use Rattle.translate.proofs.FittingProcesses.{processes_fit}
+use Rattle.translate_blocks.specs.Writing.{Written, write_all, write_items, write_front, write_statement, write_block, write_item, write_process, write_processes}
 use Rattle.translator.proofs.OperandTables.{one_table, Sized}
 use Rattle.translator.proofs.JoinedTables.{Gives, gives_by}
 use Rattle.translator.proofs.WrittenLists.{Leads, leads_on, none_gives}
@@ -164,9 +167,17 @@ module _ (ds : List Declaration) (count : ℕ) (counted : length ds ≡ count) w
       leads_on first (all_bytes_of process_bytes l)
       (λ place. processes_give rest-typed fits.1 (omega arith) (omega arith) first.gives.sized (n + length one.cells) place) base
 
+-- what the code gives over processes, after n cells and from these tables: their translation, whose operands fit if those before it do and the numbers of the cells
+pub record GivesAll (count n : ℕ) (t : Tables) (w : Written) (all : Translated) : Type 0 where
+  pub gives : Gives count w all
+  pub fits : FitsTables count t → n + length all.cells ≤ 2 ^ 32 → FitsTables count all.tables
+
 -- the processes of a module that is typed, and within the limits of its tagged form
 pub processes_written : (ds : List Declaration) (count : ℕ) → length ds ≡ count → (ps : List Block) → TypedAll ds ps → All FitsBlock ps → processes_depth ps ≤ 31 →
     length (all_bytes_of process_bytes ps) ≤ longest_field → (t : Tables) → Sized count t → (n : ℕ) →
-    Gives count (write_processes count (all_bytes_of process_bytes ps) (one_table t) n) (translate_all t n ps)
+    GivesAll count n t (write_processes count (all_bytes_of process_bytes ps) (one_table t) n) (translate_all t n ps)
 unfolding write_processes
-processes_written ds count counted ps typed fits deep long t sized n = processes_give ds count counted typed fits deep long sized n 0
+processes_written ds count counted ps typed fits deep long t sized n = record {
+  gives = processes_give ds count counted typed fits deep long sized n 0;
+  fits = λ before h. processes_fit ps fits before n h;
+}
