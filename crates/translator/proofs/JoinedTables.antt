@@ -1,6 +1,6 @@
 -- What the code gives over one table, against what the translation gives over tables of operands: after some cells, and joined with a second side. From the laws
 -- of merges. Assumes nothing.
-use mathlib.Core.Path.{◌≡◌, ap, ◌∙◌}
+use mathlib.Core.Path.{◌≡◌, sym, ap, ◌∙◌}
 use mathlib.Core.List.{List, ◌++◌}
 use Prim.Native.Nat.{ℕ, ◌+◌}
 use lib.ListN.{length}
@@ -33,6 +33,6 @@ joined_gives second {a} {b} condition n p q =
       same =
           ap (λ (w : Written). join_sides condition n w (second (n + length w.cells))) p.same
           ∙ ap (join_sides condition n (as_written a)) q.same
-          ∙ ap (behind (a.cells ++ b.cells)) (merge_one_table condition start p.sized q.sized);
+          ∙ ap (behind (a.cells ++ b.cells)) (merge_one_table condition start a.tables b.tables (p.sized.current ∙ sym q.sized.current));
       sized = merge_sized condition start p.sized q.sized;
     }

@@ -43,17 +43,18 @@ merge_append condition n (x ∷ a) (y ∷ b) c d e =
         let more : Merged = merge condition (n + 1) a b in
         ap (λ (k : ℕ). muxed condition n x y (both_merged more (merge condition k c d))) (omega arith)
 
-module _ (condition : Operand) (n : ℕ) {count : ℕ} {a b : Tables} (first : Sized count a) (second : Sized count b) where
-  pub merge_one_table : merge condition n (one_table a) (one_table b) ≡ as_written (merge_tables condition n a b)
-  unfolding merge_tables
-  merge_one_table = merge_append condition n a.current b.current a.pending b.pending (first.current ∙ sym second.current)
+-- so with two tables, whose current operands are as many
+pub merge_one_table : (condition : Operand) (n : ℕ) (a b : Tables) → length a.current ≡ length b.current →
+    merge condition n (one_table a) (one_table b) ≡ as_written (merge_tables condition n a b)
+unfolding merge_tables
+merge_one_table condition n a b e = merge_append condition n a.current b.current a.pending b.pending e
 
-  -- and the tables keep their length
-  pub merge_sized : Sized count (merge_tables condition n a b).tables
-  unfolding merge_tables
-  merge_sized = record {
-    current = merged_length condition n a.current b.current (second.current ∙ sym first.current) ∙ first.current;
-    pending =
-        merged_length condition (n + length (merge condition n a.current b.current).cells) a.pending b.pending (second.pending ∙ sym first.pending)
-        ∙ first.pending;
-  }
+-- and the tables keep their length
+pub merge_sized : (condition : Operand) (n : ℕ) {count : ℕ} {a b : Tables} → Sized count a → Sized count b → Sized count (merge_tables condition n a b).tables
+unfolding merge_tables
+merge_sized condition n {a = a} {b} first second = record {
+  current = merged_length condition n a.current b.current (second.current ∙ sym first.current) ∙ first.current;
+  pending =
+      merged_length condition (n + length (merge condition n a.current b.current).cells) a.pending b.pending (second.pending ∙ sym first.pending)
+      ∙ first.pending;
+}
