@@ -247,9 +247,15 @@ impl Emitter<'_> {
     }
 
     // Merges the items that stand in the log above `bottom`, the last first.
-    fn unwind(&mut self, entry: &[Operand], bottom: usize, table: &mut [Operand], log: &mut Log<'_>)
+    pub fn unwind(
+        &mut self,
+        entry: &[Operand],
+        bottom: usize,
+        table: &mut [Operand],
+        log: &mut Log<'_>,
+    )
         requires { (length entry.now ≤ 128) × (length table.old ≡ length entry.now) × ((marks : List Mark) × Filed log.old bottom marks)
-            × (length log.old.entries.now ≤ 2 ^ 20) × (self.old.cells + 128 * log.old.top ≤ 2 ^ 31 + 128 * bottom)
+            × (self.old.cells + 128 * log.old.top ≤ 2 ^ 31 + 128 * bottom)
             × (self.old.at + 2816 * log.old.top ≤ 2 ^ 40 + 2816 * bottom) }
         ensures { (marks : List Mark) → Filed log.old bottom marks →
             Unwinds (backward_items entry.now marks table.old self.old.cells) bottom (work self.old log.old) (work self.new log.new) table.new }
@@ -262,7 +268,7 @@ impl Emitter<'_> {
     // Merges the table of the last item in the log with the table of all that follows it.
     fn merge_last(&mut self, entry: &[Operand], table: &mut [Operand], log: &mut Log<'_>)
         requires { (self.old.at + 2816 ≤ 2 ^ 40) × (self.old.cells + 128 ≤ 2 ^ 31) × (length entry.now ≤ 128) × (length table.old ≡ length entry.now)
-            × (length log.old.entries.now ≤ 2 ^ 20) × ((below : List Entry) × (mark : Mark) × Last log.old below mark) }
+            × ((below : List Entry) × (mark : Mark) × Last log.old below mark) }
         ensures { (below : List Entry) (mark : Mark) → Last log.old below mark →
             Unwinds (merge_mark entry.now mark table.old self.old.cells) (length below) (work self.old log.old) (work self.new log.new) table.new }
     {

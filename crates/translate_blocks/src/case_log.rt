@@ -84,7 +84,7 @@ impl Log<'_> {
 
     // Puts the changes of the last item on a table: where its changes start, and its equal cell.
     fn last_item(&self, side: &mut [Operand]) -> (usize, Operand)
-        requires { ((below : List Entry) × (mark : Mark) × Last self.now below mark) × (length self.now.entries.now ≤ 2 ^ 20) }
+        requires { (below : List Entry) × (mark : Mark) × Last self.now below mark }
         ensures { (below : List Entry) (mark : Mark) → Last self.now below mark → (result.0 ≡ length below)
             × (result.1 ≡ Operand.Cell 1 mark.equal) × (side.new ≡ patched mark.changed side.old) }
     {
@@ -97,7 +97,7 @@ impl Log<'_> {
 
     // Takes the last item off the log: puts its changes on a table, and gives its equal cell.
     pub fn pop_item(&mut self, side: &mut [Operand]) -> Operand
-        requires { ((below : List Entry) × (mark : Mark) × Last self.old below mark) × (length self.old.entries.now ≤ 2 ^ 20) }
+        requires { (below : List Entry) × (mark : Mark) × Last self.old below mark }
         ensures { (below : List Entry) (mark : Mark) → Last self.old below mark → (result ≡ Operand.Cell 1 mark.equal)
             × (side.new ≡ patched mark.changed side.old) × Lowered self.old (length below) self.new }
     {

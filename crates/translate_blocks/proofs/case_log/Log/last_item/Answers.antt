@@ -13,10 +13,10 @@ abbrev missing : Entry
 missing = record { slot = 0; operand = Operand.Constant 0 0 }
 
 pub overflow_sub-mark : goal.overflow_sub-mark
-overflow_sub-mark c = omega (arith, last_top c.requires.0.2)
+overflow_sub-mark c = omega (arith, last_top c.requires.2)
 
 pub overflow_sub-start : goal.overflow_sub-start
-overflow_sub-start c = omega (arith, last_top c.requires.0.2, ap (λ (e : Entry). e.slot) (last_mark c.requires.0.2 missing))
+overflow_sub-start c = omega (arith, last_top c.requires.2, ap (λ (e : Entry). e.slot) (last_mark c.requires.2 missing))
 
 pub returns : goal.returns
 returns c below mark last =

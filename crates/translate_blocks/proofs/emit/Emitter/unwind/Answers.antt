@@ -7,18 +7,16 @@ use Rattle.translate_blocks.proofs.UnwindSteps.{mark_few, mark_long, unwind_star
 use Rattle.translate_blocks.proofs.emit.Emitter.unwind.Goals as goal
 
 pub loop-log-init : goal.loop-log-init
-loop-log-init c = (c.requires.1, c.requires.5, c.requires.4, λ marks f. unwind_start _ _ _ _ _ f)
+loop-log-init c = (c.requires.1, c.requires.4, c.requires.3, λ marks f. unwind_start _ _ _ _ _ f)
 
 pub merge_last-requires : goal.merge_last-requires
 merge_last-requires c =
     let going = c.loop-log.invariant.3 c.requires.2.0 c.requires.2.1 in
-    let more = c.loop-log-test.true in
-    let short = c.requires.3 in (
+    let more = c.loop-log-test.true in (
       omega (arith, c.loop-log.invariant.1, more),
       omega (arith, c.loop-log.invariant.2, more),
       c.requires.0,
       c.loop-log.invariant.0,
-      omega (arith, short, ap length going.unwound.lowered.same),
       (_, _, filed_last _ _ (split_filed _ _ _ _ _ going more)),
     )
 
