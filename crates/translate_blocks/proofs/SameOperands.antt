@@ -1,8 +1,14 @@
--- Operands are told apart by their kinds, widths and numbers. By cases.
-use mathlib.Core.Path.{◌≡◌, refl, sym, ◌∙◌, subst}
+-- Operands are told apart by their kinds, widths and numbers, and so in a file by their bytes. By cases, and from what is read back of an operand's bytes.
+use mathlib.Core.Path.{◌≡◌, refl, sym, ap, ◌∙◌, subst}
 use mathlib.Core.Bool.{Bool, true, false, false≢true}
+use mathlib.Core.List.{List, [], ◌++◌}
+use Prim.Native.Nat.{ℕ}
 use borrow.Author.Tests.{eq-eqb}
 use Rattle.netlist.specs.declared.Operand.{Operand}
+use Rattle.netlist.specs.Form.{operand_bytes}
+use Rattle.netlist.specs.Reading.{operand_in}
+use Rattle.netlist.specs.Fits.{FitsFour, operand_number}
+use Rattle.netlist.proofs.CellBytes.{operand_front}
 use Rattle.translate.specs.Tables.{same_operand}
 use Rattle.translate.proofs.Merging.{same_operand_lem}
 
@@ -24,3 +30,11 @@ operands_differ a b ne = go (same_operand a b) refl
 
 pub operands_other : (a b : Operand) → same_operand a b ≡ false → a ≡ b → ⊥
 operands_other a b e same = absurd (false≢true (sym e ∙ operands_same a b same))
+
+-- the operands of a file, whose numbers fit, are the same where their bytes are, and differ where these differ in any
+
+pub bytes_same : (a b : Operand) → FitsFour (operand_number a) → FitsFour (operand_number b) → operand_bytes a ≡ operand_bytes b → same_operand a b ≡ true
+bytes_same a b h k e = operands_same a b (sym (operand_front a [] h) ∙ ap (λ (l : List ℕ). operand_in (l ++ [])) e ∙ operand_front b [] k)
+
+pub bytes_differ : (a b : Operand) → (operand_bytes a ≡ operand_bytes b → ⊥) → same_operand a b ≡ false
+bytes_differ a b ne = operands_differ a b (λ e. ne (ap operand_bytes e))
