@@ -1,5 +1,6 @@
 -- Answers: the numbers of document 01 for each case, and the values in which C gets them.
-use Rattle.std.specs.Prelude.{Option, Result, Ok, Err, ℕ, cond, List, ◌≡◌, eqb}
+use Rattle.std.specs.Prelude.{Option, Result, Ok, Err, ℕ, cond, List, ◌++◌, codes, ◌≡◌, eqb}
+use Rattle.std.specs.Fmt.{decimal}
 use Rattle.tagged.specs.declared.answers.Rule.{Rule}
 use Rattle.tagged.specs.declared.answers.Refusal.{Refusal}
 use Rattle.tagged.specs.declared.answers.Written.{Written}
@@ -54,6 +55,10 @@ number_of Rule.ReadElsewhere = 11
 number_of Rule.Cells = 12
 number_of Rule.Buffer = 13
 number_of Rule.Row = 14
+
+-- the words that a refusal prints: "refused N at P", both numbers in decimal
+abbrev pub refusal_words : Refusal → List ℕ
+refusal_words r = codes "refused " ++ (decimal (number_of r.rule) ++ (codes " at " ++ decimal r.place))
 
 -- a refusal has its number and place
 unfoldable pub refusal_reply : Refusal → Reply

@@ -1,6 +1,6 @@
 // Answers: acceptance, or one refusal by its rule and place; and the struct in which C gets them.
-ghost use Rattle.std.specs.Prelude.{◌≡◌};
-ghost use Rattle.tagged.specs.Answers.{acceptance, number_of, reply_of, translation_reply, refusal_reply, refused_form};
+ghost use Rattle.std.specs.Prelude.{◌≡◌, Some};
+ghost use Rattle.tagged.specs.Answers.{acceptance, number_of, refusal_words, reply_of, translation_reply, refusal_reply, refused_form};
 ghost use Rattle.tagged.specs.Refusals.{refused_at, found_if, lower_refusal};
 
 use std::error::Error;
@@ -80,6 +80,8 @@ impl Rule {
 }
 
 impl fmt::Display for Refusal {
+    ghost output = { λ refusal. Some (refusal_words refusal) };
+
     fn fmt<W: fmt::Write>(&self, f: &mut fmt::Formatter<W>) -> fmt::Result {
         write!(f, "refused {} at {}", self.rule.number(), self.place)
     }
