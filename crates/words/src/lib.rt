@@ -5,18 +5,33 @@ pub mod limits;
 
 ghost use Rattle.std.specs.Prelude.{◌≡◌, ◌≤◌, ◌<◌, ◌^◌};
 ghost use Rattle.words.specs.Limits.{greatest_width};
-ghost use Rattle.words.specs.Widths.{is_width, fits_width, index_within};
+ghost use Rattle.words.specs.Limited.{number_in};
+ghost use Rattle.words.specs.Widths.{is_width, made_width, fits_width, index_within};
 ghost use Rattle.words.specs.Bits as bits;
 ghost use Rattle.words.specs.Operators.{one_width, one_number, two_width, two_number};
 ghost use Rattle.words.specs.Results.{one_result, two_result, put_result};
 
-use limits::Limited;
+use limits::{Limited, Limits};
 
 // No value has more bits.
 pub const GREATEST_WIDTH: usize = 32;
 
 // How many bits a value has.
 pub type Width = Limited<1, GREATEST_WIDTH>;
+
+// A width of so many bits, if there is one.
+pub fn made_width(bits: usize) -> Option<Width>
+    ensures { number_in result ≡ number_in (made_width bits) }
+{
+    Width::new(bits)
+}
+
+// The greatest width.
+pub fn greatest_width() -> usize
+    ensures { result ≡ greatest_width }
+{
+    Width::MAX
+}
 
 // Is it a width, 1 to 32?
 pub fn is_width(bits: u8) -> bool
