@@ -2,7 +2,7 @@
 use mathlib.Core.Path.{◌≡◌, refl, sym, ap, ap₂, ◌∙◌}
 use mathlib.Core.Bool.{Bool, false}
 use mathlib.Core.List.{List, [], ◌∷◌, ◌++◌, map, append_assoc, append-nil}
-use Prim.Native.Nat.{ℕ, zero, suc, ◌+◌, ◌≤◌}
+use Prim.Native.Nat.{ℕ, zero, suc, ◌+◌, ◌≤◌, ◌<◌}
 use native.Mathlib.Omega.{arith}
 use lib.ListN.{length, get_or, take, set, replicate, length-append, length-map}
 use Rattle.std.proofs.lemmas.List.{map-append}
@@ -16,6 +16,15 @@ module _ {A : Type 0} (none : A) where
   table_length zero l = refl
   table_length (suc n) [] = ap suc (table_length n [])
   table_length (suc n) (x ∷ l) = ap suc (table_length n l)
+
+  -- below its length a table is as its list
+  pub table_at : (n : ℕ) (l : List A) (i : ℕ) → i < n → get_or (table_of none n l) i none ≡ get_or l i none
+  unfolding table_of
+  table_at zero l i h = absurd (omega arith)
+  table_at (suc n) [] zero h = refl
+  table_at (suc n) [] (suc i) h = table_at n [] i (omega arith)
+  table_at (suc n) (x ∷ l) zero h = refl
+  table_at (suc n) (x ∷ l) (suc i) h = table_at n l i (omega arith)
 
   -- a list that the table has room for stands in its front
   pub table_front : (n : ℕ) (l : List A) → length l ≤ n → take (length l) (table_of none n l) ≡ l
