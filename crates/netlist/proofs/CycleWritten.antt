@@ -1,32 +1,52 @@
 -- What the code writes for one cycle of an accepted netlist is what its cycle gives: the parts of the file are its lists, and the lengths fit.
+use Rattle.std.specs.Prelude.{Ok}
 use mathlib.Core.Path.{◌≡◌, sym, ap, ap₂, ◌∙◌}
 use mathlib.Core.List.{List}
-use Prim.Native.Nat.{ℕ, ◌*◌, ◌/◌, ◌≤◌}
+use Prim.Native.Nat.{ℕ, ◌+◌, ◌*◌, ◌/◌, ◌≤◌}
 use native.Mathlib.Omega.{arith}
 use lib.ListN.{length, take, drop, length-drop, length-map}
-use lib.Seq.{sets}
+use lib.Seq.{sets, take_all}
 use Rattle.tagged.specs.Answers.{acceptance}
 use Rattle.tagged.specs.Limits.{longest_netlist}
-use Rattle.tagged.specs.Fields.{passed_bytes, unplaced}
-use Rattle.tagged.specs.Declarations.{width_of, after_declarations}
+use Rattle.tagged.specs.Fields.{then_by, passed_bytes, unplaced, size_of}
+use Rattle.tagged.specs.Declarations.{width_of, declarations_step, after_declarations}
 use Rattle.tagged.specs.Runs.{row_left}
 use Rattle.tagged.specs.Rows.{row_bytes, row_numbers, row_answer}
+use Rattle.tagged.proofs.FieldLaws.{field_passed}
+use Rattle.tagged.proofs.JudgeLaws.{then_tells}
 use Rattle.tagged.proofs.FileLaws.{file_fits}
+use Rattle.tagged.proofs.DeclarationBytes.{after_declared_lem}
 use Rattle.tagged.proofs.DeclarationSizes.{variables_few}
 use Rattle.tagged.proofs.WriteLaws.{sets_all}
 use Rattle.tagged.proofs.RowLaws.{bytes_length, fits_length, numbers_front, RowAccepted, row_accepted}
 use Rattle.words.specs.Values.{Outcome}
 use Rattle.netlist.specs.Lists.{Netlist}
-use Rattle.netlist.specs.Form.{cells_step}
+use Rattle.netlist.specs.Form.{cells_step, drives_judge, netlist_body, netlist_form}
 use Rattle.netlist.specs.Reading.{cells_at, drives_at, lists_in, netlist_in}
 use Rattle.netlist.specs.Answer.{netlist_answer}
 use Rattle.netlist.specs.Run.{file_widths, cycle_of}
 use Rattle.netlist.specs.Numbers.{cell_numbers, driven_numbers}
+use Rattle.netlist.proofs.NetlistBytes.{cells_anywhere, body_fine}
 use Rattle.netlist.proofs.Accepted.{AnswerParts, answer_parts}
 use Rattle.netlist.proofs.PassedRules.{accepted_rules}
 use Rattle.netlist.proofs.RulesFit.{cells_count}
 use Rattle.netlist.proofs.NeverStops.{never_stops}
 use Rattle.netlist.proofs.NumberLaws.{cycle_counts}
+
+-- the cells of a file without a fault are passed
+cells_passed : (file : List ℕ) → AnswerParts file → (k : ℕ) × (cells_step 0 0 (after_declarations (drop 3 file)) ≡ Ok k)
+unfolding netlist_form
+cells_passed file p =
+    let l = drop 3 file in
+    let fits = file_fits longest_netlist file p.fits in
+    let f = field_passed netlist_body 0 0 file p.bytes p.form in
+    let size : f.size ≡ size_of file = f.whole.size in
+    let whole : take f.size l ≡ l = take_all f.size l (omega (arith, fits.outer, length-drop 3 file)) in
+    let body = body_fine 0 f.sort l (ap (netlist_body 0 f.sort) (sym whole) ∙ f.fine) in
+    let d = then_tells declarations_step (then_by cells_step drives_judge) 3 0 l body.1 in
+    let g = then_tells cells_step drives_judge (3 + d.size) 0 (drop d.size l) d.rest in
+    let from : after_declarations l ≡ drop d.size l = after_declared_lem 3 0 l d.size d.passed in
+    (g.size, rw from (cells_anywhere (3 + d.size) 0 (drop d.size l) g.size g.passed))
 
 -- what follows in a short part is short
 pub part_short : (l : List ℕ) (k : ℕ) (r : List ℕ) → r ≡ drop k l → length l ≤ longest_netlist → length r ≤ longest_netlist
@@ -67,7 +87,7 @@ module _ (file row next : List ℕ) (accepted : netlist_answer file ≡ acceptan
   pub count_few : length row / 4 ≤ 64
   count_few = omega (arith, count_is, few_variables)
 
-  module _ (cells : List ℕ) (from : cells ≡ after_declarations (drop 3 file)) (end : ℕ) (ends : end ≡ passed_bytes (cells_step 0 0 cells))
+  module _ (cells : List ℕ) (from : cells ≡ after_declarations (drop 3 file)) (end : ℕ) (ends : (m : ℕ) → cells_step 0 0 cells ≡ Ok m → end ≡ m)
       (numbers : List ℕ) (read : numbers ≡ row_numbers 64 row) (before values : List ℕ) (room : length before ≡ 1024)
       (ran : values ≡ cell_numbers numbers before 0 (unplaced (cells_at 0 cells))) (drives : List ℕ) (rest : drives ≡ drop end cells)
       (after : List ℕ) (drove : after ≡ driven_numbers numbers values numbers (unplaced (drives_at 0 drives))) where
@@ -76,7 +96,9 @@ module _ (file row next : List ℕ) (accepted : netlist_answer file ≡ acceptan
     the_cells = ap (λ (l : List ℕ). unplaced (cells_at 0 l)) from
 
     the_end : end ≡ passed_bytes (cells_step 0 0 (after_declarations (drop 3 file)))
-    the_end = ends ∙ ap (λ (l : List ℕ). passed_bytes (cells_step 0 0 l)) from
+    the_end =
+        let p = cells_passed file parts in
+        ends p.0 (ap (λ (l : List ℕ). cells_step 0 0 l) from ∙ p.1) ∙ ap passed_bytes (sym p.1)
 
     the_drives : unplaced (drives_at 0 drives) ≡ n.drives
     unfolding lists_in

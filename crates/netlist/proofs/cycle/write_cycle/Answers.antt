@@ -32,5 +32,5 @@ pub returns : goal.returns
 returns c =
     cycle_written c.args.file.now c.args.row.now c.args.next.now c.requires.0 c.requires.1 _
     (c.from-cells.ensures ∙ ap₂ drop (c.declared_bytes.ensures ∙ ap (λ l. passed_bytes (declarations_step 0 0 l)) c.from-payload.ensures) c.from-payload.ensures)
-    _ c.celled_bytes.ensures.told _ c.read_row.ensures _ _ refl c.run_cells.ensures _ c.from.ensures _ c.run_drives.ensures _
+    _ (λ m e. c.celled_bytes.ensures.told ∙ ap passed_bytes e) _ c.read_row.ensures _ _ refl c.run_cells.ensures _ c.from.ensures _ c.run_drives.ensures _
     (c.write_row.ensures ∙ ap (λ l. sets c.args.next.now 0 (row_bytes l)) c.front.ensures)
