@@ -21,7 +21,7 @@ use Rattle.tagged.proofs.DeclarationRules.{declared_only}
 use Rattle.tagged.proofs.TableLaws.{told_widths, told_marks, marks_long}
 use Rattle.netlist.specs.Lists.{Netlist}
 use Rattle.netlist.specs.declared.rules.Known.{Known}
-use Rattle.netlist.specs.Form.{cell_bytes, drive_bytes, netlist_form}
+use Rattle.netlist.specs.Form.{cell_bytes, drive_bytes, cells_step, netlist_form}
 use Rattle.netlist.specs.Reading.{cells_at, drives_at, lists_in, netlist_in}
 use Rattle.netlist.specs.Rules.{registers_from, cells_base, drives_base}
 use Rattle.netlist.specs.Answer.{netlist_rules}
@@ -89,10 +89,11 @@ module _ (file : List ℕ) (bytes : AllBytes file) (accepted : file_answer longe
     pub taken_few : taken ≤ 32765
     taken_few = omega (arith, count, read.declared_within, payload_long)
 
-    pub after_asked : (3 + taken + length after ≤ 2 ^ 40) × (length (unplaced (cells_at 0 after)) ≤ most_listed)
+    pub after_asked : (3 + taken + length after ≤ 2 ^ 40) × (cells_step 0 0 after ≡ Ok (cells_end after)) × (length (unplaced (cells_at 0 after)) ≤ most_listed)
     unfolding lists_in
     after_asked = (
       omega (arith, taken_few, payload_long, ap length rest, length-drop taken payload),
+      subst (λ (l : List ℕ). cells_step 0 0 l ≡ Ok (cells_end l)) (sym after_is) read.celled,
       subst (λ (l : List ℕ). length (unplaced (cells_at 0 l)) ≤ most_listed) (sym after_is)
           (few_cells (lists_in payload) (omega (arith, ap length read.written, payload_long))),
     )

@@ -1,15 +1,15 @@
 // One cycle of an accepted netlist: its cells in order, then its drives, from a row into another.
-ghost use Rattle.std.specs.Prelude.{◌≡◌, ◌^◌, ◌≤◌, length};
+ghost use Rattle.std.specs.Prelude.{Ok, ◌≡◌, ℕ, ◌^◌, ◌≤◌, length};
 ghost use Rattle.tagged.specs.Answers.{acceptance};
 ghost use Rattle.tagged.specs.Fields.{unplaced};
 ghost use Rattle.tagged.specs.Runs.{row_left};
 ghost use Rattle.tagged.specs.Rows.{row_answer};
+ghost use Rattle.netlist.specs.Form.{cells_step};
 ghost use Rattle.netlist.specs.Reading.{cells_at, drives_at};
 ghost use Rattle.netlist.specs.Answer.{netlist_answer};
 ghost use Rattle.netlist.specs.Run.{file_widths, cycle_of};
 ghost use Rattle.netlist.specs.Numbers.{read_number, cell_number, cell_numbers, driven_numbers};
 
-use crate::form::celled_bytes;
 use crate::reading::{cell_in, drive_in};
 use crate::{Cell, Operand};
 use tagged::bytes::{from, front, get_or, put_item};
@@ -64,13 +64,15 @@ impl<'a> Numbers<'a> {
     }
 }
 
-// Runs the cells of a list, in order: their numbers go into the values, so far as there is room.
+// Runs the cells of a list, in order: their numbers go into the values, so far as there is room. Where the cells end.
 #[tactic(auto, using(crate::proofs::Listed::cells_in, crate::proofs::Listed::cell_here, crate::proofs::Listed::cells_end, crate::proofs::Listed::cells_none, crate::proofs::FormLaws::not_cell), unfolding(crate::specs::Numbers::cell_numbers))]
-fn run_cells(list: &[u8], row: &[u32], values: &mut [u32])
+fn run_cells(list: &[u8], row: &[u32], values: &mut [u32]) -> usize
     requires { length list.now ≤ 2 ^ 40 }
-    ensures { values.new ≡ cell_numbers row.now values.old 0 (unplaced (cells_at 0 list.now)) }
+    ensures numbers { values.new ≡ cell_numbers row.now values.old 0 (unplaced (cells_at 0 list.now)) }
+    ensures ends { (m : ℕ) → cells_step 0 0 list.now ≡ Ok m → result ≡ m }
 {
     let mut count: usize = 0;
+    let mut end: usize = 0;
     for field in fields_of(list, 0) {
         let Sort::Cell(sort) = field.sort else {
             break;
@@ -79,7 +81,9 @@ fn run_cells(list: &[u8], row: &[u32], values: &mut [u32])
         let number = numbers.cell(cell_in(sort, field.payload));
         put_item(values, count, number);
         count += 1;
+        end += 3 + field.payload.len();
     }
+    end
 }
 
 // Runs the drives of a list: what they name goes into the next row, so far as there is room.
@@ -108,12 +112,12 @@ pub fn write_cycle(file: &[u8], row: &[u8], next: &mut [u8])
     let mut before = [0u32; MOST_VARIABLES];
     read_row(row, &mut before);
     let mut values = [0u32; MOST_CELLS];
-    run_cells(cells, &before, &mut values);
+    let end = run_cells(cells, &before, &mut values);
     let mut after = before;
     let numbers = Numbers {
         row: &before,
         cells: &values,
     };
-    run_drives(from(cells, celled_bytes(cells)), numbers, &mut after);
+    run_drives(from(cells, end), numbers, &mut after);
     write_row(front(&after, row.len() / 4), next);
 }

@@ -10,14 +10,13 @@ ghost use Rattle.tagged.specs.Declarations.{Declaration, is_register};
 ghost use Rattle.netlist.specs.declared.Cell as listed;
 ghost use Rattle.netlist.specs.declared.Drive as driven;
 ghost use Rattle.netlist.specs.Answer.{lists_answer};
-ghost use Rattle.netlist.specs.Form.{netlist_form};
+ghost use Rattle.netlist.specs.Form.{cells_step, netlist_form};
 ghost use Rattle.netlist.specs.Reading.{cells_at, drives_at, netlist_in};
 ghost use Rattle.netlist.specs.Lists.{Netlist, operand_width, cell_width, cell_slots, operands_in, present};
 ghost use Rattle.netlist.specs.Rules.{cell_unlike, cell_outside, cell_breaks, drive_breaks, registers_from};
 ghost use Rattle.netlist.specs.WalkAnswers.{answer_of, operands_answer, one_answer, list_answer, whole_answer, cells_end, parts_answer, rest_answer};
 ghost use Rattle.netlist.specs.WalkAnswers.{Knows, most_listed};
 
-use crate::form::celled_bytes;
 use crate::reading::{cell_in, drive_in};
 use crate::{Cell, Drive, Operand, Slot};
 use tagged::answers::{Refusal, Rule, or_lower, refuse_if};
@@ -215,7 +214,8 @@ const MOST_LISTED: usize = 3276;
 
 // What the cells of a list, whose first byte stands at `base`, then the drives after them and the whole netlist are refused for.
 fn cells_answer(list: &[u8], base: usize, declared: Known) -> Result<(), Refusal>
-    requires { (base + length list.now ≤ 2 ^ 40) × (length (unplaced (cells_at 0 list.now)) ≤ most_listed) }
+    requires { (base + length list.now ≤ 2 ^ 40) × (cells_step 0 0 list.now ≡ Ok (cells_end list.now))
+        × (length (unplaced (cells_at 0 list.now)) ≤ most_listed) }
     ensures { (n : Netlist) → Knows n.declarations [] declared.entry → n.cells ≡ unplaced
         (cells_at 0 list.now) → n.drives ≡ unplaced (drives_at 0 (drop (cells_end list.now) list.now)) → result
         ≡ parts_answer base list.now n }
@@ -223,6 +223,7 @@ fn cells_answer(list: &[u8], base: usize, declared: Known) -> Result<(), Refusal
     let mut widths = [0u8; MOST_LISTED];
     let mut answer = Ok(());
     let mut count: usize = 0;
+    let mut end: usize = 0;
     for field in fields_of(list, base) {
         let Sort::Cell(sort) = field.sort else {
             break;
@@ -232,8 +233,8 @@ fn cells_answer(list: &[u8], base: usize, declared: Known) -> Result<(), Refusal
         answer = or_lower(answer, known.cell_answer(cell, field.place));
         widths[count] = cell.width();
         count += 1;
+        end += 3 + field.payload.len();
     }
-    let end = celled_bytes(list);
     let known = declared.with_cells(front(&widths, count));
     or_lower(answer, drives_answer(from(list, end), base + end, known))
 }

@@ -1,16 +1,17 @@
 -- `netlist::rules::cells_answer` meets its contract: the answer so far, joined with that of the cells left, is that of the list.
 -- The table holds the widths of the cells passed. Assumes nothing.
-use Rattle.std.proofs.Common.{◌≡◌, ◌+◌, [], map, sym, ap, ap₂, ◌∙◌, arith, take, drop}
+use Rattle.std.proofs.Common.{◌≡◌, ◌+◌, [], map, sym, ap, ap₂, ◌∙◌, arith, length, take, drop}
 use lib.Seq.{take_all}
 use Rattle.tagged.specs.Fields.{unplaced}
 use Rattle.tagged.specs.Refusals.{lower_refusal}
 use Rattle.tagged.specs.Walk.{fields_left}
+use Rattle.tagged.specs.declared.walk.Fields.{Fields}
 use Rattle.netlist.specs.Lists.{cell_width}
 use Rattle.netlist.specs.Reading.{cells_at, drives_at}
 use Rattle.netlist.specs.Rules.{cell_breaks, drive_breaks}
-use Rattle.netlist.specs.WalkAnswers.{one_answer, list_answer, whole_answer, parts_answer, most_listed}
+use Rattle.netlist.specs.WalkAnswers.{one_answer, list_answer, whole_answer, cells_end, parts_answer, most_listed}
 use Rattle.netlist.proofs.FormLaws.{not_cell}
-use Rattle.netlist.proofs.Listed.{celled, cells_fields, cells_in, left_start, cell_here, cells_end, cells_none}
+use Rattle.netlist.proofs.Listed.{celled, cells_fields, cells_in, left_start, cell_here, cells_end as cells_ended, cells_none, celled_size, cells_sized, size_here, size_none}
 use Rattle.netlist.proofs.RuleAnswers.{walking_start, walking_more, walking_done}
 use Rattle.netlist.proofs.RuleWalks.{walked_all, walked_start, walked_more, walked_before, tabled_start, tabled_more}
 use Rattle.netlist.proofs.rules.cells_answer.Goals as goal
@@ -24,6 +25,8 @@ loop-field-init c =
     record {
       walked = walked_start (cells_in c.args.base c.args.list.now ∙ ap (λ f. unplaced (celled f)) (sym left));
       tabled = tabled_start cell_width most_listed (unplaced (cells_at 0 c.args.list.now));
+      ending = omega (arith, ap celled_size left);
+      within = omega (arith, ap (λ (f : Fields). length f.rest.now) it, ap length from.rest);
       going = λ ds k. rw (left, ← cells_fields c.args.base c.args.list.now) (walking_start (λ rule. cell_breaks rule ds) (cells_at c.args.base c.args.list.now));
     }
 
@@ -35,7 +38,9 @@ loop-field-preserved c =
     let earlier = take c.loop-field.count (unplaced (cells_at 0 c.args.list.now)) in
     record {
       walked = walked_more i.walked more;
-      tabled = tabled_more i.walked i.tabled c.requires.1 more (c.width.ensures ∙ ap cell_width c.cell_in-cell.ensures);
+      tabled = tabled_more i.walked i.tabled c.requires.2 more (c.width.ensures ∙ ap cell_width c.cell_in-cell.ensures);
+      ending = omega (arith, i.ending, size_here s.first _ c.in-Cell.is);
+      within = omega (arith, i.within, s.shorter);
       going = λ ds k. walking_more (i.going ds k) more
           (c.cell_answer.ensures ds earlier (c.with_cells-known.ensures ds _ earlier k (i.tabled.held ∙ sym c.front.ensures))
           ∙ ap (λ a. one_answer (λ rule. cell_breaks rule ds) earlier a c.in-Some.field.place) c.cell_in-cell.ensures)
@@ -50,11 +55,11 @@ returns c = λ n k cells drives.
     let none : celled (fields_left c.loop-field.field-iterator) ≡ [] =
     elim c.match-next.branch [
       | in-None w ↦ cells_none w.in-None.ensures.steps
-      | in-Some+in_default w ↦ cells_end w.in-Some.ensures.steps.first (not_cell _ w.in_default.not-Cell)
+      | in-Some+in_default w ↦ cells_ended w.in-Some.ensures.steps.first (not_cell _ w.in_default.not-Cell)
     ] in
     let listed = cells ∙ sym (take_all c.loop-field.count (unplaced (cells_at 0 l)) (omega (arith, walked_all i.walked none))) in
     let held = ap (map cell_width) listed ∙ i.tabled.held ∙ sym c.front-2.ensures in
-    let bytes = c.celled_bytes-end.ensures.told in
+    let bytes : c.loop-field.end ≡ cells_end l = omega (arith, i.ending, size_none _ none, cells_sized c.args.base l _ c.requires.1) in
     let after = c.from.ensures ∙ ap (λ k. drop k l) bytes in
     c.or_lower.ensures ∙ ap₂ lower_refusal (walking_done (i.going n.declarations k) none)
     (c.drives_answer.ensures n (c.with_cells-known-2.ensures n.declarations [] n.cells k held) (drives ∙ ap (λ l. unplaced (drives_at 0 l)) (sym after))
