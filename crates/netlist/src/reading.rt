@@ -3,7 +3,7 @@ ghost use Rattle.std.specs.Prelude.{◌≡◌, drop};
 ghost use Rattle.netlist.specs.Reading.{operand_of, operand_in, cell_in, drive_in};
 
 use crate::{Cell, Drive, Operand};
-use tagged::bytes::{four_of, from, get_or};
+use tagged::bytes::{four_of, from, get_or, number_of_four};
 use tagged::sorts::CellSort;
 
 // The operand of this kind and width.
@@ -18,15 +18,18 @@ fn operand_of(kind: u8, width: u8, number: u32) -> Operand
 }
 
 // The operand in the first six bytes; what is missing counts as 0.
-#[tactic(auto, unfolding(crate::specs::Reading::operand_in))]
+#[tactic(auto, unfolding(crate::specs::Reading::operand_in, tagged::specs::Bytes::four_of))]
 pub fn operand_in(part: &[u8]) -> Operand
     ensures { result ≡ operand_in part.now }
 {
-    operand_of(
-        get_or(part, 0, 0),
-        get_or(part, 1, 0),
-        four_of(from(part, 2)),
-    )
+    match part {
+        &[kind, width, a, b, c, d, ..] => operand_of(kind, width, number_of_four(a, b, c, d)),
+        _ => operand_of(
+            get_or(part, 0, 0),
+            get_or(part, 1, 0),
+            four_of(from(part, 2)),
+        ),
+    }
 }
 
 // The operand that starts at an index of a payload.
