@@ -74,15 +74,20 @@ impl<'a> Known<'a> {
         }
     }
 
-    // What a slot at a place is refused for: its operand, if it holds one.
-    #[tactic(auto, unfolding(crate::specs::WalkAnswers::operands_answer, crate::specs::WalkAnswers::answer_of))]
-    fn slot_answer(self, slot: Option<Slot>, place: usize) -> Result<(), Refusal>
-        ensures { (ds : List Declaration) (cs : List listed.Cell) → Knows ds cs self.entry → result ≡ operands_answer ds cs (operands_in (present (slot ∷ []))) place }
+    // The lower of an answer and what a slot at a place is refused for: its operand, if it holds one.
+    #[tactic(auto, using(tagged::proofs::LowerLaws::lower_accepted), unfolding(crate::specs::WalkAnswers::operands_answer, crate::specs::WalkAnswers::answer_of))]
+    fn slot_answer(
+        self,
+        answer: Result<(), Refusal>,
+        slot: Option<Slot>,
+        place: usize,
+    ) -> Result<(), Refusal>
+        ensures { (ds : List Declaration) (cs : List listed.Cell) → Knows ds cs self.entry → result ≡ lower_refusal answer (operands_answer ds cs (operands_in (present (slot ∷ []))) place) }
     {
         match slot {
-            Some(Slot::Operand(operand)) => self.operand_answer(operand, place),
-            Some(Slot::Byte(_)) => Ok(()),
-            None => Ok(()),
+            Some(Slot::Operand(operand)) => or_lower(answer, self.operand_answer(operand, place)),
+            Some(Slot::Byte(_)) => answer,
+            None => answer,
         }
     }
 
@@ -92,7 +97,7 @@ impl<'a> Known<'a> {
     {
         let mut answer = Ok(());
         for slot in cell.slots() {
-            answer = or_lower(answer, self.slot_answer(slot, place));
+            answer = self.slot_answer(answer, slot, place);
         }
         answer
     }

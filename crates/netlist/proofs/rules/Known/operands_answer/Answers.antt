@@ -15,7 +15,7 @@ pub loop-slot-preserved : goal.loop-slot-preserved
 loop-slot-preserved c = λ ds cs k.
     let three : length c.slots-slot-items.result ≡ 3 = search rules in
     let within : c.loop-slot.slot-index < length c.slots-slot-items.result = omega (arith, three, c.loop-slot-test.true) in
-    c.or_lower-answer.ensures ∙ ap₂ lower_refusal (c.loop-slot.invariant ds cs k) (c.slot_answer.ensures ds cs k)
+    c.slot_answer-answer.ensures ds cs k ∙ ap₂ lower_refusal (c.loop-slot.invariant ds cs k) refl
     ∙ sym (ap (λ os. operands_answer ds cs os c.args.place) (operands_turn c.slots-slot-items.result c.loop-slot.slot-index None within)
     ∙ operands_both ds cs c.args.place (operands_in (present (take c.loop-slot.slot-index c.slots-slot-items.result)))
     (operands_in (present (get_or c.slots-slot-items.result c.loop-slot.slot-index None ∷ []))))
