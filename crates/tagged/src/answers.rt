@@ -145,14 +145,26 @@ impl From<Result<Written, Refusal>> for Reply {
     }
 }
 
-// Of two answers the refusal with the lower number; of two with the same number the first.
+// Of two answers the refusal with the lower number; of two with the same number the first. A refusal is taken apart and made anew: copied whole, it
+// goes by moves that overlap, for which the loads behind them wait, and every walk asks this at each field.
 pub fn or_lower(first: Result<(), Refusal>, second: Result<(), Refusal>) -> Result<(), Refusal>
     ensures { result ≡ lower_refusal first second }
 {
-    match (first, second) {
-        (Ok(()), _) => second,
-        (Err(one), Err(other)) if other.rule.number() < one.rule.number() => second,
-        _ => first,
+    match first {
+        Ok(()) => match second {
+            Ok(()) => Ok(()),
+            Err(Refusal { rule, place }) => Err(Refusal { rule, place }),
+        },
+        Err(one) => match second {
+            Err(other) if other.rule.number() < one.rule.number() => Err(Refusal {
+                rule: other.rule,
+                place: other.place,
+            }),
+            _ => Err(Refusal {
+                rule: one.rule,
+                place: one.place,
+            }),
+        },
     }
 }
 
