@@ -4,7 +4,7 @@ ghost use Rattle.verilog_check.specs.Tables.{with_first};
 ghost use Rattle.verilog_check.specs.Survey.{step_over, begun_after, noted, survey_from};
 
 use crate::assignments::First;
-use tagged::bytes::{get_or, put_item};
+use tagged::bytes::get_or;
 use tagged::fields::open_field;
 use tagged::sorts::{Kind, Sort, StatementSort};
 
@@ -41,8 +41,8 @@ fn put_first(firsts: &mut [Option<First>], variable: u8, first: First)
     ensures { firsts.new ≡ with_first firsts.old variable first }
 {
     let place = usize::from(variable);
-    if get_or(firsts, place, None).is_none() {
-        put_item(firsts, place, Some(first));
+    if place < firsts.len() && firsts[place].is_none() {
+        firsts[place] = Some(first);
     }
 }
 

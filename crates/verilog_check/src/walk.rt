@@ -42,9 +42,9 @@ impl Judge<'_> {
     // An expression, then its operands.
     #[tactic(auto, using(crate::proofs::WalkSteps::expression_deep, crate::proofs::WalkSteps::expression_open, crate::proofs::WalkSteps::nothing_behind, tagged::proofs::ByteLaws::rest, tagged::proofs::LowerLaws::lower_accepted))]
     #[cycle(expression_operands)]
-    fn expression(self, field: Field, depth: usize) -> Result<(), Refusal>
+    fn expression(&self, field: Field, depth: usize) -> Result<(), Refusal>
         requires { field.place + 3 + length field.payload.now ≤ 2 ^ 40 }
-        ensures { result ≡ walked (walk_expression (answer_by self.entry) depth) field.entry }
+        ensures { result ≡ walked (walk_expression (answer_by self.now) depth) field.entry }
     {
         match field.sort {
             Sort::Expression(sort) if depth > 0 => {
@@ -64,9 +64,9 @@ impl Judge<'_> {
     // The expressions of a list.
     #[tactic(auto, using(tagged::proofs::LowerLaws::lower_accepted, tagged::proofs::LowerLaws::lower_joined), unfolding(crate::specs::Walk::walk_all))]
     #[cycle(expression_operands)]
-    fn operands(self, list: &[u8], base: usize, depth: usize) -> Result<(), Refusal>
+    fn operands(&self, list: &[u8], base: usize, depth: usize) -> Result<(), Refusal>
         requires { base + length list.now ≤ 2 ^ 40 }
-        ensures { result ≡ walk_all (walk_expression (answer_by self.entry) depth) (fields_at base list.now) }
+        ensures { result ≡ walk_all (walk_expression (answer_by self.now) depth) (fields_at base list.now) }
     {
         let mut best = Ok(());
         for field in fields_of(list, base) {
@@ -78,9 +78,9 @@ impl Judge<'_> {
     // A statement, then its expressions, items and blocks.
     #[tactic(auto, using(crate::proofs::WalkSteps::statement_deep, crate::proofs::WalkSteps::statement_open, crate::proofs::WalkSteps::nothing_behind, tagged::proofs::ByteLaws::rest, tagged::proofs::LowerLaws::lower_accepted))]
     #[cycle(statement_walk)]
-    fn statement(self, field: Field, depth: usize) -> Result<(), Refusal>
+    fn statement(&self, field: Field, depth: usize) -> Result<(), Refusal>
         requires { field.place + 3 + length field.payload.now ≤ 2 ^ 40 }
-        ensures { result ≡ walked (walk_statement (answer_by self.entry) (width_by self.entry) depth) field.entry }
+        ensures { result ≡ walked (walk_statement (answer_by self.now) (width_by self.now) depth) field.entry }
     {
         match field.sort {
             Sort::Statement(sort) if depth > 0 => {
@@ -102,9 +102,9 @@ impl Judge<'_> {
     // The expressions, items and blocks of a list, in a statement whose first expression has the width `selector`.
     #[tactic(auto, using(tagged::proofs::LowerLaws::lower_accepted, tagged::proofs::LowerLaws::lower_joined), unfolding(crate::specs::Walk::walk_all))]
     #[cycle(statement_walk)]
-    fn parts(self, selector: u8, list: &[u8], base: usize, depth: usize) -> Result<(), Refusal>
+    fn parts(&self, selector: u8, list: &[u8], base: usize, depth: usize) -> Result<(), Refusal>
         requires { base + length list.now ≤ 2 ^ 40 }
-        ensures { result ≡ walk_all (walk_part (answer_by self.entry) (width_by self.entry) depth selector) (fields_at base list.now) }
+        ensures { result ≡ walk_all (walk_part (answer_by self.now) (width_by self.now) depth selector) (fields_at base list.now) }
     {
         let mut best = Ok(());
         for field in fields_of(list, base) {
@@ -116,9 +116,9 @@ impl Judge<'_> {
     // An expression, an item or a block.
     #[tactic(auto, using(crate::proofs::WalkSteps::part_deep, crate::proofs::WalkSteps::part_open, crate::proofs::WalkSteps::part_expression))]
     #[cycle(statement_walk)]
-    fn part(self, selector: u8, field: Field, depth: usize) -> Result<(), Refusal>
+    fn part(&self, selector: u8, field: Field, depth: usize) -> Result<(), Refusal>
         requires { field.place + 3 + length field.payload.now ≤ 2 ^ 40 }
-        ensures { result ≡ walked (walk_part (answer_by self.entry) (width_by self.entry) depth selector) field.entry }
+        ensures { result ≡ walked (walk_part (answer_by self.now) (width_by self.now) depth selector) field.entry }
     {
         match field.sort {
             Sort::Expression(_) => self.expression(field, depth),
@@ -136,9 +136,9 @@ impl Judge<'_> {
     // The statements of a block or of a process.
     #[tactic(auto, using(tagged::proofs::LowerLaws::lower_accepted, tagged::proofs::LowerLaws::lower_joined), unfolding(crate::specs::Walk::walk_all))]
     #[cycle(statement_walk)]
-    fn statements(self, list: &[u8], base: usize, depth: usize) -> Result<(), Refusal>
+    fn statements(&self, list: &[u8], base: usize, depth: usize) -> Result<(), Refusal>
         requires { base + length list.now ≤ 2 ^ 40 }
-        ensures { result ≡ walk_all (walk_statement (answer_by self.entry) (width_by self.entry) depth) (fields_at base list.now) }
+        ensures { result ≡ walk_all (walk_statement (answer_by self.now) (width_by self.now) depth) (fields_at base list.now) }
     {
         let mut best = Ok(());
         for field in fields_of(list, base) {
@@ -149,9 +149,9 @@ impl Judge<'_> {
 
     // A process, then its statements.
     #[tactic(auto, using(verilog::proofs::FormLaws::is_missed), unfolding(crate::specs::Walk::walk_process))]
-    fn process(self, field: Field) -> Result<(), Refusal>
+    fn process(&self, field: Field) -> Result<(), Refusal>
         requires { field.place + 3 + length field.payload.now ≤ 2 ^ 40 }
-        ensures { result ≡ walked (walk_process (answer_by self.entry) (width_by self.entry)) field.entry }
+        ensures { result ≡ walked (walk_process (answer_by self.now) (width_by self.now)) field.entry }
     {
         match field.sort {
             Sort::Process => or_lower(
