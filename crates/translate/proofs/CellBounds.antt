@@ -40,12 +40,12 @@ expression_few table n (two op a b) =
     simp length-append (omega (arith, expression_few table n a, expression_few table (n + length x.cells) b))
 
 -- a merge adds a cell for each operand of the first table at most, and gives no more operands than it has
-record FewMerged (count : ℕ) (m : Merged) : Type 0 where
+pub record FewMerged (count : ℕ) (m : Merged) : Type 0 where
   pub cells : length m.cells ≤ count
   pub operands : length m.operands ≤ count
 
 module _ (condition : Operand) where
-  merge_few : (n : ℕ) (a b : List Operand) → FewMerged (length a) (merge condition n a b)
+  pub merge_few : (n : ℕ) (a b : List Operand) → FewMerged (length a) (merge condition n a b)
   unfolding merge
   merge_few n [] bs = record { cells = omega arith; operands = omega arith }
   merge_few n (a ∷ as') [] = record { cells = omega arith; operands = omega arith }

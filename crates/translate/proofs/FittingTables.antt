@@ -132,7 +132,7 @@ module _ (condition : Operand) where
       go true same other h = (f.0, same h)
       go false same other h = ((f.0.0, omega arith), other (omega arith))
 
-  merge_count : (n : ℕ) (a b : List Operand) → length a ≡ length b → length (merge condition n a b).operands ≡ length a
+  pub merge_count : (n : ℕ) (a b : List Operand) → length a ≡ length b → length (merge condition n a b).operands ≡ length a
   unfolding merge
   merge_count n [] bs e = refl
   merge_count n (a ∷ as') [] e = absurd (omega arith)

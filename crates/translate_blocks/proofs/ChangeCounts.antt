@@ -9,6 +9,8 @@ use native.Mathlib.Omega.{arith}
 use lib.ListN.{length, set}
 use Rattle.netlist.specs.declared.Operand.{Operand}
 use Rattle.translate.specs.Tables.{operand_at, same_operand, Merged, kept, muxed, merge}
+use Rattle.translate.proofs.CellBounds.{merge_few}
+use Rattle.translate.proofs.FittingTables.{merge_count}
 use Rattle.translate.proofs.Merging.{same_operand_lem}
 use Rattle.translate_blocks.specs.Log.{unlike, changes}
 use Rattle.translate_blocks.proofs.SameOperands.{operands_same, operands_other}
@@ -76,27 +78,11 @@ changes_twice (x ∷ a) (y ∷ b) (z ∷ c) h = omega (arith, unlike_twice x y z
 
 module _ (condition : Operand) where
   pub merged_length : (n : ℕ) (a b : List Operand) → length b ≡ length a → length (merge condition n a b).operands ≡ length a
-  unfolding merge
-  merged_length n [] b h = refl
-  merged_length n (x ∷ a) [] h = absurd (omega arith)
-  merged_length n (x ∷ a) (y ∷ b) h = go (same_operand x y) (merged_length n a b (omega arith)) (merged_length (n + 1) a b (omega arith))
-    where
-      go : (t : Bool) → length (merge condition n a b).operands ≡ length a → length (merge condition (n + 1) a b).operands ≡ length a →
-          length (cond t (kept x (merge condition n a b)) (muxed condition n x y (merge condition (n + 1) a b))).operands ≡ suc (length a)
-      go true same other = ap suc same
-      go false same other = ap suc other
+  merged_length n a b h = merge_count condition n a b (sym h)
 
   -- a cell for each entry at most
   pub merged_few : (n : ℕ) (a b : List Operand) → length (merge condition n a b).cells ≤ length a
-  unfolding merge
-  merged_few n [] b = omega arith
-  merged_few n (x ∷ a) [] = omega arith
-  merged_few n (x ∷ a) (y ∷ b) = go (same_operand x y) (merged_few n a b) (merged_few (n + 1) a b)
-    where
-      go : (t : Bool) → length (merge condition n a b).cells ≤ length a → length (merge condition (n + 1) a b).cells ≤ length a →
-          length (cond t (kept x (merge condition n a b)) (muxed condition n x y (merge condition (n + 1) a b))).cells ≤ suc (length a)
-      go true same other = omega (arith, same)
-      go false same other = omega (arith, other)
+  merged_few n a b = (merge_few condition n a b).cells
 
   pub merged_changes : (n : ℕ) (entry a b : List Operand) → length a ≡ length entry → length b ≡ length entry →
       changes entry (merge condition n a b).operands ≤ changes entry a + changes entry b
