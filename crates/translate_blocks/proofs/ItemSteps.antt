@@ -164,13 +164,14 @@ module _ (count d : ℕ) (selector : Operand) (l : List ℕ) {entry table table�
   pub top_within : x₁.log.top ≤ length x₁.log.entries.now
   top_within = omega (arith, f.grown.height, f.grown.long, log_few, room.free)
 
-  pub unwind_room : (length entry ≤ 128) × (length table₁ ≡ length entry) × ((marks : List Mark) × Filed x₁.log x.log.top marks)
+  pub unwind_room : (length entry ≤ 128) × (length table₁ ≡ length entry) × ((marks : List Mark) × Filed x₁.log x.log.top marks) × (length x₁.log.entries.now ≤ 2 ^ 20)
       × (x₁.emitter.cells + 128 * x₁.log.top ≤ 2 ^ 31 + 128 * x.log.top) × (x₁.emitter.at + 2816 * x₁.log.top ≤ 2 ^ 40 + 2816 * x.log.top)
   unwind_room =
       let cells = forward_few count d selector l entry x.emitter.cells entry_few in (
         entry_few,
         ap length f.left ∙ forward_long count d selector (fields_at 0 l) entry x.emitter.cells,
         (found.marks, filed_grown (omega (arith, room.free)) f.grown top_within),
+        omega (arith, f.grown.long, room.short),
         omega (arith, f.emitted.counted, cells, f.grown.height, log_few, room.numbers),
         omega (arith, emits_past f.emitted, cells, f.grown.height, log_few, room.places),
       )

@@ -28,8 +28,9 @@ case_of-items-requires t c =
 
 pub case_of-unwind-requires : goal.case_of-unwind-requires
 case_of-unwind-requires t c =
-    unwind_room _ _ _ _ c.copy_from_slice.ensures.after
-    (room_expression _ _ _ _ c.requires c.expression-selector.ensures.emits _ c.after_front.ensures) c.items.ensures
+    let room = room_expression _ _ _ _ c.requires c.expression-selector.ensures.emits _ c.after_front.ensures in
+    let left = unwind_room _ _ _ _ c.copy_from_slice.ensures.after room c.items.ensures in
+    (left.0, left.1, left.2, left.4, left.5)
 
 pub case_of-returns : goal.case_of-returns
 case_of-returns t c =
