@@ -26,11 +26,12 @@ pub case_of-items-requires : goal.case_of-items-requires
 case_of-items-requires t c =
     (omega arith, (c.copy_from_slice.ensures.after, room_less (omega arith) (room_expression _ _ _ _ c.requires c.expression-selector.ensures.emits _ c.after_front.ensures)))
 
+-- all that the law gives but the log's length, of which `unwind` asks nothing
 pub case_of-unwind-requires : goal.case_of-unwind-requires
 case_of-unwind-requires t c =
     let room = room_expression _ _ _ _ c.requires c.expression-selector.ensures.emits _ c.after_front.ensures in
-    let left = unwind_room _ _ _ _ c.copy_from_slice.ensures.after room c.items.ensures in
-    (left.0, left.1, left.2, left.4, left.5)
+    let has = unwind_room _ _ _ _ c.copy_from_slice.ensures.after room c.items.ensures in
+    (has.0, has.1, has.2, has.4, has.5)
 
 pub case_of-returns : goal.case_of-returns
 case_of-returns t c =
